@@ -1,19 +1,21 @@
 # Completion of pmp for bash.
 _pmp() {
     local word=${COMP_WORDS[COMP_CWORD]} before=${COMP_WORDS[COMP_CWORD - 1]} files= words=
-    local commands='check audit policy dump map picture entries writes diff harts import'
+    local commands='check why audit policy dump map picture entries writes lint diff harts import'
     if [ "$COMP_CWORD" = 1 ]; then
         COMPREPLY=($(compgen -W "$commands help --help --version" -- "$word"))
         return
     fi
     case ${COMP_WORDS[1]} in
         check) words='--explain --after --expect M S U fetch load store stdin'; files=yes ;;
+        why) words='--explain --after M S U fetch load store stdin'; files=yes ;;
         audit) words='--explain --checkers --long --jobs --first-row stdin'; files=yes ;;
         policy) words='--explain --each-write --names stdin'; files=yes ;;
         dump) words='--explain --after --script stdin'; files=yes ;;
         map | entries) words='--explain --after --names stdin'; files=yes ;;
         picture) words='--explain --after stdin'; files=yes ;;
         writes) words='--explain stdin'; files=yes ;;
+        lint) words='--explain --accept --names stdin'; files=yes ;;
         diff) words='--explain --old-after --new-after --only --names stdin'; files=yes ;;
         harts) words='--explain --names'; files=yes ;;
         import)
@@ -25,6 +27,10 @@ _pmp() {
     case $before in
         --expect) words='allow fault' files= ;;
         --only) words='more less' files= ;;
+        --accept)
+            words='rlb-left-on mmwp-off open-before-locked never-decides write-and-execute open-between late-write'
+            files=
+            ;;
         --checkers) words='1 2 3 4 5 6 7 8' files= ;;
         --xlen) words='32 64' files= ;;
         --smepmp) words='yes no' files= ;;

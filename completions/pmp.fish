@@ -1,8 +1,9 @@
 # Completion of pmp for fish.
-set -l commands check audit policy dump map picture entries writes diff harts import
+set -l commands check why audit policy dump map picture entries writes lint diff harts import
 complete -c pmp -n __fish_use_subcommand -f -l help -d 'tell of the commands'
 complete -c pmp -n __fish_use_subcommand -f -l version -d 'write the version'
 complete -c pmp -n __fish_use_subcommand -f -a check -d 'decide one access'
+complete -c pmp -n __fish_use_subcommand -f -a why -d 'say why one access is decided so'
 complete -c pmp -n __fish_use_subcommand -f -a audit -d 'decide each access of a trace'
 complete -c pmp -n __fish_use_subcommand -f -a policy -d 'say whether each row of a policy holds'
 complete -c pmp -n __fish_use_subcommand -f -a dump -d 'write the registers'
@@ -10,20 +11,24 @@ complete -c pmp -n __fish_use_subcommand -f -a map -d 'write which bytes each en
 complete -c pmp -n __fish_use_subcommand -f -a picture -d 'draw which bytes each entry owns'
 complete -c pmp -n __fish_use_subcommand -f -a entries -d 'write what each entry is and how it is locked'
 complete -c pmp -n __fish_use_subcommand -f -a writes -d 'write what each write changes'
+complete -c pmp -n __fish_use_subcommand -f -a lint -d 'write what a reader should look at'
 complete -c pmp -n __fish_use_subcommand -f -a diff -d 'write where two scripts differ'
 complete -c pmp -n __fish_use_subcommand -f -a harts -d 'write where the harts of a folder differ'
 complete -c pmp -n __fish_use_subcommand -f -a import -d 'write a script of a log'
 complete -c pmp -n __fish_use_subcommand -f -a help -d 'tell of a command'
 complete -c pmp -n '__fish_seen_subcommand_from help' -f -a "$commands script trace rows"
 complete -c pmp -n "__fish_seen_subcommand_from $commands" -l explain -d 'explain a refusal'
-complete -c pmp -n '__fish_seen_subcommand_from check dump map picture entries' -l after -x \
+complete -c pmp -n '__fish_seen_subcommand_from check why dump map picture entries' -l after -x \
     -a 'last mml mmwp rlb-clear' -d 'take the first N publications'
-complete -c pmp -n '__fish_seen_subcommand_from policy map entries diff harts' -l names -r \
+complete -c pmp -n '__fish_seen_subcommand_from policy map entries lint diff harts' -l names -r \
     -d 'write the names of the bytes behind each row'
+complete -c pmp -n '__fish_seen_subcommand_from lint' -l accept -x \
+    -a 'rlb-left-on mmwp-off open-before-locked never-decides write-and-execute open-between late-write' \
+    -d 'leave out findings with this name'
 complete -c pmp -n '__fish_seen_subcommand_from dump' -l script -d 'write a script of these registers'
 complete -c pmp -n '__fish_seen_subcommand_from check' -l expect -x -a 'allow fault' \
     -d 'end with status 0 where this is the answer'
-complete -c pmp -n '__fish_seen_subcommand_from check' -a 'M S U fetch load store'
+complete -c pmp -n '__fish_seen_subcommand_from check why' -a 'M S U fetch load store'
 complete -c pmp -n '__fish_seen_subcommand_from audit' -l checkers -x -a '1 2 3 4 5 6 7 8' -d 'decide by K threads'
 complete -c pmp -n '__fish_seen_subcommand_from audit' -l long -d 'take a trace of any length'
 complete -c pmp -n '__fish_seen_subcommand_from audit' -l jobs -x -d 'decide a long trace by N jobs at a time'

@@ -9,6 +9,7 @@ pub mod View
 pub mod RightsDiff
 pub mod Expectations
 pub mod WriteList
+pub mod Reasons
 pub mod Since
 pub mod EntryList
 pub mod Moments

@@ -5,4 +5,5 @@ pub mod Happenings
 pub mod LateWrites
 pub mod OneList
 pub mod OpenBetween
+pub mod OwnedBytes
 pub mod Stretches

@@ -10,6 +10,8 @@ pub mod Report
 pub mod TableRows
 pub mod Why
 pub mod WhyRows
+-- A law of these definitions, which is proved.
+pub mod EndStateLaw
 -- The rest, which only private contracts cite.
 pub mod Adding
 pub mod Subjects

@@ -115,18 +115,22 @@ impl<'a> Ended<'a> {
     pub fn rlb_left_on(&self) -> Option<Finding>
         ensures { result ≡ rlb_left_on self.now.script.now }
     {
+        if !has_bypassed(self.file) {
+            return None;
+        }
         let line = self.changed_last(Subject::Bypass);
-        let finding = Finding::about_script(Lint::RlbLeftOn, line);
-        found_if(has_bypassed(self.file), finding)
+        Some(Finding::about_script(Lint::RlbLeftOn, line))
     }
 
     /// MML is set and MMWP isn't.
     pub fn mmwp_off(&self) -> Option<Finding>
         ensures { result ≡ mmwp_off self.now.script.now }
     {
+        if !is_mmwp_off(self.file) {
+            return None;
+        }
         let line = self.changed_last(Subject::Lockdown);
-        let finding = Finding::about_script(Lint::MmwpOff, line);
-        found_if(is_mmwp_off(self.file), finding)
+        Some(Finding::about_script(Lint::MmwpOff, line))
     }
 
     fn about_entry(&self, lint: Lint, entry: u8) -> Finding

@@ -36,11 +36,13 @@ unfound_at folders command path side _ (unfit fault files is none) = no_harts fa
 pub task_asked : (new : Bool) (name : Text) (request : Request)
     → with_new (path_on new (unwrap_or (new_script request) []) name) (task_of request) ≡ task_on new name (task_of request)
 task_asked new name (request.Check check) = refl
+task_asked new name (request.Why why) = refl
 task_asked new name (request.Audit audit) = refl
 task_asked new name (request.LongAudit audit) = refl
 task_asked new name (request.Policy path pace) = refl
 task_asked new name (request.Show view when) = refl
 task_asked new name request.Writes = refl
+task_asked new name (request.Lint accepted) = refl
 task_asked new name (request.Diff diff) = refl
 task_asked new name request.Harts = refl
 task_asked new name (request.Import import) = refl

@@ -125,6 +125,8 @@ module _ (before after : Option (List ℕ)) (scripts traces : Inputs) where
       → failure_status failure ≡ 2 → IsLong request ⊎ Keeps before after
   request_keeps script (request.Check check) failure fails two =
       inr (moment_keeps fails (λ fails. declines_keep fails two))
+  request_keeps script (request.Why why) failure fails two =
+      inr (moment_keeps fails (λ fails. declines_keep fails two))
   request_keeps script (request.Audit audit) failure fails two =
       inr (input_keeps fails (λ trace fails. declines_keep fails two))
   request_keeps script (request.LongAudit audit) failure fails two = inl (inl (audit, refl))
@@ -133,6 +135,7 @@ module _ (before after : Option (List ℕ)) (scripts traces : Inputs) where
   request_keeps script (request.Show view when) failure fails two =
       inr (moment_keeps fails (λ fails. declines_keep fails two))
   request_keeps script request.Writes failure fails two = inr (declines_keep fails two)
+  request_keeps script (request.Lint accepted) failure fails two = inr (declines_keep fails two)
   request_keeps script (request.Diff diff) failure fails two =
       inr (moment_keeps fails (λ fails. input_keeps fails (λ new fails.
       moment_keeps fails (λ fails. declines_keep fails two))))

@@ -7,8 +7,8 @@ use Rattle.pmp_share.specs.declared.opening.TheConstants.{CHECKERS}
 use Rattle.pmp_tool.specs.declared.argument.Argument.{Argument}
 use Rattle.pmp_tool.specs.declared.argument.Argument.TheVariants as argument
 use Rattle.pmp_tool.specs.declared.command_name.CommandName.{CommandName}
-use Rattle.pmp_tool.specs.declared.command_name.CommandName.TheVariants.{Check, Audit, Policy, Dump, Map, Picture}
-use Rattle.pmp_tool.specs.declared.command_name.CommandName.TheVariants.{Entries, Writes, Diff, Harts, Import}
+use Rattle.pmp_tool.specs.declared.command_name.CommandName.TheVariants.{Check, Why, Audit, Policy, Dump, Map, Picture}
+use Rattle.pmp_tool.specs.declared.command_name.CommandName.TheVariants.{Entries, Writes, Lint, Diff, Harts, Import}
 use Rattle.pmp_tool.specs.declared.jobs.TheConstants.{JOBS}
 
 -- a word that its command requires
@@ -48,6 +48,7 @@ rule_in argument.OldAfter = option_rule (codes "old-after")
 rule_in argument.NewAfter = option_rule (codes "new-after")
 rule_in argument.Expect = option_rule (codes "expect")
 rule_in argument.Only = option_rule (codes "only")
+rule_in argument.Accept = option_rule (codes "accept")
 rule_in argument.FirstRow = option_rule (codes "first-row")
 rule_in argument.Checkers = count_rule (codes "checkers") CHECKERS
 rule_in argument.Jobs = count_rule (codes "jobs") JOBS
@@ -70,10 +71,11 @@ id_of argument = (rule_in argument).id
 
 -- the commands, in the order of the help
 abbrev pub commands : List CommandName
-commands = Check ∷ Audit ∷ Policy ∷ Dump ∷ Map ∷ Picture ∷ Entries ∷ Writes ∷ Diff ∷ Harts ∷ Import ∷ []
+commands = Check ∷ Why ∷ Audit ∷ Policy ∷ Dump ∷ Map ∷ Picture ∷ Entries ∷ Writes ∷ Lint ∷ Diff ∷ Harts ∷ Import ∷ []
 
 abbrev pub command_word : CommandName → Text
 command_word Check = codes "check"
+command_word Why = codes "why"
 command_word Audit = codes "audit"
 command_word Policy = codes "policy"
 command_word Dump = codes "dump"
@@ -81,6 +83,7 @@ command_word Map = codes "map"
 command_word Picture = codes "picture"
 command_word Entries = codes "entries"
 command_word Writes = codes "writes"
+command_word Lint = codes "lint"
 command_word Diff = codes "diff"
 command_word Harts = codes "harts"
 command_word Import = codes "import"
@@ -90,6 +93,9 @@ abbrev pub arguments_of : CommandName → List Argument
 arguments_of Check =
     argument.Script ∷ argument.Explain ∷ argument.Mode ∷ argument.Kind ∷ argument.Start ∷ argument.Length
     ∷ argument.After ∷ argument.Expect ∷ []
+arguments_of Why =
+    argument.Script ∷ argument.Explain ∷ argument.Mode ∷ argument.Kind ∷ argument.Start ∷ argument.Length
+    ∷ argument.After ∷ []
 arguments_of Audit =
     argument.Script ∷ argument.Explain ∷ argument.Trace ∷ argument.Checkers ∷ argument.Long ∷ argument.Jobs
     ∷ argument.FirstRow ∷ []
@@ -100,6 +106,7 @@ arguments_of Map = argument.Script ∷ argument.Explain ∷ argument.After ∷ a
 arguments_of Picture = argument.Script ∷ argument.Explain ∷ argument.After ∷ []
 arguments_of Entries = argument.Script ∷ argument.Explain ∷ argument.After ∷ argument.Names ∷ []
 arguments_of Writes = argument.Script ∷ argument.Explain ∷ []
+arguments_of Lint = argument.Script ∷ argument.Explain ∷ argument.Accept ∷ argument.Names ∷ []
 arguments_of Diff =
     argument.Old ∷ argument.Explain ∷ argument.New ∷ argument.OldAfter ∷ argument.NewAfter ∷ argument.Only
     ∷ argument.Names ∷ []

@@ -8,7 +8,8 @@ use Rattle.pmp_text.specs.declared.script.reader.TheConstants.{MAX_HEADED_SCRIPT
 use Rattle.pmp_tool.specs.declared.command.Command.{Command}
 use Rattle.pmp_tool.specs.declared.failure.Failure.{Failure}
 use Rattle.pmp_tool.specs.declared.outcome.Outcome.{Outcome}
-use Rattle.pmp_tool.specs.declared.outcome.Outcome.TheVariants.{Decided, Audited, Judged, Replayed, Compared}
+use Rattle.pmp_tool.specs.declared.outcome.Outcome.TheVariants.{Decided, Explained, Audited, Judged, Replayed, Found}
+use Rattle.pmp_tool.specs.declared.outcome.Outcome.TheVariants.{Compared}
 use Rattle.pmp_tool.specs.declared.request.Request.{Request}
 use Rattle.pmp_tool.specs.declared.request.Request.TheVariants.{Import as OfLog}
 use Rattle.pmp_tool.specs.Expected.{is_met}
@@ -42,13 +43,16 @@ CommandFails scripts traces command before after =
     IsUnscripted before after (scripts command.script.now) (old_side command.request) command.request
     (λ script. RequestFails before after scripts traces script command.request)
 
--- a check ends well where the answer is the expected one, an audit where all accesses are allowed, a policy where no
--- row is broken, writes where all are stored as written, a comparison where no row is written, and all else does
+-- a check ends well where the answer is the expected one, a reason where the access is allowed, an audit where all
+-- accesses are, a policy where no row is broken, writes where all are stored as written, a comparison or a lint where no
+-- row is written, and all else does
 abbrev pub outcome_status : Outcome → ℕ
 outcome_status (Decided decision asked) = if is_met asked.expected decision then 0 else 1
+outcome_status (Explained decision is_bare) = if decision.allowed then 0 else 1
 outcome_status (Audited summary) = if summary.faults == 0 then 0 else 1
 outcome_status (Judged summary) = if summary.broken == 0 then 0 else 1
 outcome_status (Replayed summary) =
     if summary.differing == 0 then (if summary.not_stored == 0 then 0 else 1) else 1
+outcome_status (Found count) = if count == 0 then 0 else 1
 outcome_status (Compared rows) = if rows == 0 then 0 else 1
 outcome_status _ = 0

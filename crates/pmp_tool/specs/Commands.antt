@@ -12,6 +12,8 @@ use Rattle.pmp_core.specs.Access.{access_fault}
 use Rattle.pmp_import.specs.declared.format.Format.{Format}
 use Rattle.pmp_import.specs.declared.options.Options.{Options}
 use Rattle.pmp_import.specs.Formats.{format_named}
+use Rattle.pmp_lint.specs.Findings.{accepted_said}
+use Rattle.pmp_lint.specs.declared.accepted.Accepted.{Accepted}
 use Rattle.pmp_text.specs.AccessWords.{kind_named, mode_named}
 use Rattle.pmp_text.specs.declared.lines.changes.Only.{Only}
 use Rattle.pmp_text.specs.declared.moments.When.{When}
@@ -49,11 +51,13 @@ pub record AccessTask : Type 0 where
 -- what is asked for of a script, in plain values
 pub data Task : Type 0 where
   Check : AccessTask → (after : Option When) → Expected → (is_bare : Bool) → Task
+  Why : AccessTask → (after : Option When) → (is_bare : Bool) → Task
   Audit : (trace : Text) (checkers : Option ℕ) → Task
   LongAudit : (trace : Text) (jobs : Option ℕ) (first : ℕ) → Task
   Policy : (policy : Text) → Pace → Task
   Show : View → (after : Option When) → Task
   Writes : Task
+  Lint : (accepted : Option Accepted) → Task
   Diff : (new : Text) (old_after new_after : Option When) → Option Only → Task
   Harts : Task
   Import : (log : Text) → Format → Options → (folder : Option Text) → Task
@@ -63,11 +67,13 @@ access_task access = record { mode = access.mode; kind = access.kind; start = ac
 
 abbrev pub task_of : Request → Task
 task_of (request.Check check) = Check (access_task check.access) check.after check.expected check.is_bare
+task_of (request.Why why) = Why (access_task why.access) why.after why.is_bare
 task_of (request.Audit audit) = Audit audit.trace.now audit.checkers
 task_of (request.LongAudit audit) = LongAudit audit.trace.now audit.jobs audit.first
 task_of (request.Policy policy pace) = Policy policy.now pace
 task_of (request.Show view after) = Show view after
 task_of request.Writes = Writes
+task_of (request.Lint accepted) = Lint accepted
 task_of (request.Diff diff) = Diff diff.new.now diff.old_after diff.new_after diff.only
 task_of request.Harts = Harts
 task_of (request.Import log) = Import log.log.now log.format log.options (option_map (λ path. path.now) log.folder)
@@ -121,6 +127,12 @@ check_in rows =
     and_then (asked_in when_said argument.After rows) (λ after.
     and_then (access_in rows) (λ access.
     Ok (Check access after (unwrap_or expected Allow) (is_bare_word argument.Start rows)))))
+
+-- the option is read before the access
+abbrev pub why_in : List Row → Result Task FaultLine
+why_in rows =
+    and_then (asked_in when_said argument.After rows) (λ after.
+    and_then (access_in rows) (λ access. Ok (Why access after (is_bare_word argument.Start rows))))
 
 -- an audit of a trace that is taken whole
 abbrev pub whole_audit_in : (trace : Text) → List Row → Result Task FaultLine
@@ -204,6 +216,7 @@ import_in rows =
 -- what a command's matches ask for
 abbrev pub task_in : CommandName → List Row → Result Task FaultLine
 task_in name.Check rows = check_in rows
+task_in name.Why rows = why_in rows
 task_in name.Audit rows = audit_in rows
 task_in name.Policy rows = policy_in rows
 task_in name.Dump rows = show_in (if is_set argument.AsScript rows then Script else Registers) rows
@@ -211,6 +224,7 @@ task_in name.Map rows = show_in Runs rows
 task_in name.Picture rows = show_in Picture rows
 task_in name.Entries rows = show_in Entries rows
 task_in name.Writes rows = Ok Writes
+task_in name.Lint rows = and_then (asked_in accepted_said argument.Accept rows) (λ accepted. Ok (Lint accepted))
 task_in name.Diff rows = diff_in rows
 task_in name.Harts rows = Ok Harts
 task_in name.Import rows = import_in rows

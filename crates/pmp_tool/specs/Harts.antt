@@ -34,11 +34,13 @@ use Rattle.pmp_tool.specs.CommandAnswers.{CommandAnswers, CommandFails, outcome_
 -- a folder may stand where a script does, but for a picture, a dump, a long audit and a log
 abbrev pub takes_folder : Request → Bool
 takes_folder (request.Check check) = true
+takes_folder (request.Why why) = true
 takes_folder (request.Audit audit) = true
 takes_folder (request.Policy path pace) = true
 takes_folder (request.Show Runs when) = true
 takes_folder (request.Show Entries when) = true
 takes_folder request.Writes = true
+takes_folder (request.Lint accepted) = true
 takes_folder (request.Diff diff) = true
 takes_folder request.Harts = true
 takes_folder _ = false

@@ -6,11 +6,12 @@ use Rattle.pmp_text.specs.Bytes.{AppendsBeginning}
 use Rattle.pmp_tool.specs.declared.note.Note.{Note}
 use Rattle.pmp_tool.specs.declared.note.Note.TheVariants.{Start, TraceRow, PolicyRow, Guessed, Taken, Scripts}
 use Rattle.pmp_tool.specs.declared.outcome.Outcome.{Outcome}
-use Rattle.pmp_tool.specs.declared.outcome.Outcome.TheVariants.{Decided, Audited, Judged, Imported}
+use Rattle.pmp_tool.specs.declared.outcome.Outcome.TheVariants.{Decided, Explained, Audited, Judged, Imported}
 
 -- the word START, or the first row
 abbrev pub note_of : Outcome → Option Note
 note_of (Decided decision check) = if check.is_bare then Some Start else None
+note_of (Explained decision is_bare) = if is_bare then Some Start else None
 note_of (Audited summary) = option_map TraceRow summary.bare
 note_of (Judged summary) = option_map PolicyRow summary.bare
 note_of (Imported note) = Some note

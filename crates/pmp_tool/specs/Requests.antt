@@ -3,6 +3,7 @@ use Rattle.std.specs.Prelude.{◌≡◌, ℕ, List, length, Bool, ◌&&◌, nat_
 use Rattle.std.specs.Prelude.{false}
 use Rattle.std.specs.Prelude.{codes, bytes_eq, if◌then◌else◌}
 use Rattle.std.specs.Io.KnownBytes.{Appends, Keeps}
+use Rattle.std.specs.Option.{option_to_list}
 use Rattle.pmp_import.specs.declared.fault.ImportFault.{ImportFault}
 use Rattle.pmp_import.specs.declared.given.Given.{Given}
 use Rattle.pmp_import.specs.declared.survey.Survey.{Survey}
@@ -26,6 +27,7 @@ use Rattle.pmp_audit.specs.AskedFile.{FileRefuses}
 use Rattle.pmp_audit.specs.RightsDiff.{DiffRefuses, DiffSays}
 use Rattle.pmp_audit.specs.declared.long_audit.TheConstants.{PIECE}
 use Rattle.pmp_audit.specs.LongAudit.{LongAuditSays, StopsLong}
+use Rattle.pmp_audit.specs.Reasons.{FindingsSay, ReasonsSay}
 use Rattle.pmp_audit.specs.PolicyCheck.{PolicyRefuses, PolicySays}
 use Rattle.pmp_audit.specs.SharedAudit.{SharedAuditRefuses}
 use Rattle.pmp_audit.specs.TraceAudit.{AuditRefuses, AuditSays}
@@ -37,11 +39,12 @@ use Rattle.pmp_tool.specs.declared.failure.Failure.{Failure}
 use Rattle.pmp_tool.specs.declared.failure.Failure.TheVariants.{Refused}
 use Rattle.pmp_tool.specs.declared.fault_line.FaultLine.{FaultLine}
 use Rattle.pmp_tool.specs.declared.request.Request.{Request}
-use Rattle.pmp_tool.specs.declared.request.Request.TheVariants.{Check, Audit, LongAudit, Policy, Show, Writes, Diff, Harts}
+use Rattle.pmp_tool.specs.declared.request.Request.TheVariants.{Check, Why, Audit, LongAudit, Policy, Show, Writes, Lint, Diff}
+use Rattle.pmp_tool.specs.declared.request.Request.TheVariants.{Harts}
 use Rattle.pmp_tool.specs.declared.request.Request.TheVariants.{Import as OfLog}
 use Rattle.pmp_tool.specs.declared.outcome.Outcome.{Outcome}
-use Rattle.pmp_tool.specs.declared.outcome.Outcome.TheVariants.{Decided, Audited, Judged, Listed, Replayed, Compared}
-use Rattle.pmp_tool.specs.declared.outcome.Outcome.TheVariants.{Imported}
+use Rattle.pmp_tool.specs.declared.outcome.Outcome.TheVariants.{Decided, Explained, Audited, Judged, Listed, Replayed, Found}
+use Rattle.pmp_tool.specs.declared.outcome.Outcome.TheVariants.{Compared, Imported}
 use Rattle.pmp_tool.specs.declared.note.Note.{Note}
 use Rattle.pmp_tool.specs.declared.note.Note.TheVariants.{Guessed, Taken}
 use Rattle.pmp_tool.specs.declared.request.Import.{Import}
@@ -107,6 +110,8 @@ pub data ImportFails (known : Option (List ℕ)) (import : Import) (before after
 abbrev pub RequestSays : (scripts traces : Inputs) (script : List ℕ) → Request → Outcome → (text : List ℕ) → Type 0
 RequestSays scripts traces script (Check check) (Decided decision asked) text =
     (asked ≡ check) × CheckSays script check.access check.after decision text
+RequestSays scripts traces script (Why why) (Explained decision is_bare) text =
+    (is_bare ≡ why.is_bare) × ReasonsSay script why.access why.after decision text
 RequestSays scripts traces script (Audit audit) (Audited summary) text =
     (trace : List ℕ) × AreBytesOf (traces audit.trace.now) trace × AuditSays script trace summary text
 RequestSays scripts traces script (LongAudit audit) (Audited summary) text =
@@ -115,6 +120,8 @@ RequestSays scripts traces script (Policy path pace) (Judged summary) text =
     (policy : List ℕ) × AreBytesOf (traces path.now) policy × PolicySays pace script policy summary text
 RequestSays scripts traces script (Show view after) Listed text = ViewSays view script after tt text
 RequestSays scripts traces script Writes (Replayed summary) text = WritesSay script summary text
+RequestSays scripts traces script (Lint accepted) (Found told) text =
+    FindingsSay script (option_to_list accepted) told text
 RequestSays scripts traces script (Diff diff) (Compared rows) text =
     (new : List ℕ) × AreBytesOf (scripts diff.new.now) new
     × DiffSays script diff.old_after new diff.new_after diff.only rows text
@@ -175,6 +182,9 @@ module _ (before after : Option (List ℕ)) where
     RequestFails (Check check) =
         MomentFails script argument.After check.after
         (Declines (CheckSays script check.access check.after) (FileRefuses script check.after))
+    RequestFails (Why why) =
+        MomentFails script argument.After why.after
+        (Declines (ReasonsSay script why.access why.after) (FileRefuses script why.after))
     RequestFails (Audit audit) =
         TraceFails (traces audit.trace.now)
         (λ trace. Declines (AuditSays script trace) (AuditByRefuses audit.checkers script trace))
@@ -185,6 +195,7 @@ module _ (before after : Option (List ℕ)) where
     RequestFails (Show view when) =
         MomentFails script argument.After when (Declines (ViewSays view script when) (FileRefuses script when))
     RequestFails Writes = Declines (WritesSay script) (WritesRefuse script)
+    RequestFails (Lint accepted) = Declines (FindingsSay script (option_to_list accepted)) (WritesRefuse script)
     RequestFails (Diff diff) =
         MomentFails script argument.OldAfter diff.old_after
         (ScriptFails (scripts diff.new.now) (Some New)

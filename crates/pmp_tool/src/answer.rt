@@ -16,12 +16,13 @@ use crate::inputs::Inputs;
 use crate::jobs::processors;
 use crate::note::Note;
 use crate::outcome::Outcome;
-use crate::request::{Audit, Check, Diff, Import, LongAudit, Request};
+use crate::request::{Audit, Check, Diff, Import, LongAudit, Request, Why};
 use pmp_audit::{
     OpenGate, PIECE, Pace, Side, View, audit, audit_long, audit_shared, check, check_policy, diff,
-    show, writes,
+    explain, lint, show, writes,
 };
 use pmp_import::{Given, import, survey_log};
+use pmp_lint::Accepted;
 use pmp_text::{MAX_HEADED_SCRIPT, Refusal, When, is_headed};
 use std::alloc::Global;
 use std::io::Write;
@@ -65,11 +66,13 @@ fn answer_request<R: Threads + Wait + Sync, I: Inputs, O: Write>(
 {
     match request {
         Request::Check(asked) => answer_check(alloc, script, asked, out),
+        Request::Why(asked) => answer_why(alloc, script, asked, out),
         Request::Audit(asked) => answer_audit(rt, alloc, script, asked, inputs, out),
         Request::LongAudit(asked) => answer_long_audit(rt, alloc, script, asked, inputs, out),
         Request::Policy(path, pace) => answer_policy(alloc, script, path, pace, inputs, out),
         Request::Show(view, after) => answer_show(alloc, script, view, after, out),
         Request::Writes => Ok(Outcome::Replayed(writes(alloc, script, out)?)),
+        Request::Lint(accepted) => answer_lint(alloc, script, accepted, out),
         Request::Diff(asked) => answer_diff(alloc, script, asked, inputs, out),
         Request::Harts => Err(Failure::from(Refusal::BadFolder)),
         Request::Import(asked) => answer_import(alloc, asked, inputs, out),
@@ -108,6 +111,42 @@ fn answer_check<O: Write>(
     allow_name(script, Argument::After, asked.after)?;
     let decision = check(alloc, script, &asked.access, asked.after, out)?;
     Ok(Outcome::Decided(decision, asked))
+}
+
+/// Says why an access is decided as it is.
+fn answer_why<O: Write>(
+    alloc: Global,
+    script: &[u8],
+    asked: Why,
+    out: &mut O,
+) -> Result<Outcome, Failure>
+    ensures ok { (scripts traces : Inputs) → IfOk result (IsWritten (RequestSays scripts traces script.now
+        (request.Why asked)) (O.contents out.old) (O.contents out.new)) }
+    ensures err { (scripts traces : Inputs) → IfErr result (RequestFails (O.contents out.old) (O.contents out.new)
+        scripts traces script.now (request.Why asked)) }
+{
+    allow_name(script, Argument::After, asked.after)?;
+    let decision = explain(alloc, script, &asked.access, asked.after, out)?;
+    Ok(Outcome::Explained(decision, asked.is_bare))
+}
+
+/// Writes what is found in the script.
+fn answer_lint<O: Write>(
+    alloc: Global,
+    script: &[u8],
+    accepted: Option<Accepted>,
+    out: &mut O,
+) -> Result<Outcome, Failure>
+    ensures ok { (scripts traces : Inputs) → IfOk result (IsWritten (RequestSays scripts traces script.now
+        (request.Lint accepted)) (O.contents out.old) (O.contents out.new)) }
+    ensures err { (scripts traces : Inputs) → IfErr result (RequestFails (O.contents out.old) (O.contents out.new)
+        scripts traces script.now (request.Lint accepted)) }
+{
+    let told = match accepted {
+        Some(finding) => lint(alloc, script, &[finding], out)?,
+        None => lint(alloc, script, &[], out)?,
+    };
+    Ok(Outcome::Found(told as u64))
 }
 
 /// Shows something of a register file.

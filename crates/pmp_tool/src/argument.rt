@@ -34,6 +34,7 @@ pub enum Argument {
     NewAfter,
     Expect,
     Only,
+    Accept,
     FirstRow,
     Checkers,
     Jobs,
@@ -79,6 +80,7 @@ impl Argument {
             NewAfter => "new-after",
             Expect => "expect",
             Only => "only",
+            Accept => "accept",
             FirstRow => "first-row",
             Checkers => "checkers",
             Jobs => "jobs",
@@ -119,6 +121,7 @@ impl Argument {
             NewAfter => "M",
             Expect => "ANSWER",
             Only => "CHANGE",
+            Accept => "FINDING",
             Checkers => "K",
         }
     }
@@ -145,6 +148,7 @@ impl Argument {
             NewAfter => help::NEW_AFTER,
             Expect => help::EXPECT,
             Only => help::ONLY,
+            Accept => help::ACCEPT,
             FirstRow => help::FIRST_ROW,
             Checkers => help::CHECKERS,
             Jobs => help::JOBS,
@@ -179,6 +183,7 @@ impl Argument {
             | NewAfter
             | Expect
             | Only
+            | Accept
             | FirstRow
             | Hart
             | Xlen
@@ -190,9 +195,18 @@ impl Argument {
             | Folder => option(alloc, id, name, help),
             Checkers => count(alloc, id, name, CHECKERS, help),
             Jobs => count(alloc, id, name, JOBS, help),
-            Script | Old | New | Trace | Policy | Mode | Kind | Start | Length | Log | Format | Harts => {
-                word(alloc, id, name, help)
-            }
+            Script
+            | Old
+            | New
+            | Trace
+            | Policy
+            | Mode
+            | Kind
+            | Start
+            | Length
+            | Log
+            | Format
+            | Harts => { word(alloc, id, name, help) }
         }
     }
 
@@ -206,6 +220,8 @@ impl Argument {
             Argument::Kind => "fetch, load or store",
             Argument::Expect => "allow or fault",
             Argument::Only => "more or less",
+            Argument::Accept =>
+                "the name of a finding, as mmwp-off, perhaps with a line, as mmwp-off:7",
             Argument::FirstRow => "a number from 1 on",
             Argument::Checkers => "a number from 1 to 8",
             Argument::Jobs => "a number from 1 to 64",

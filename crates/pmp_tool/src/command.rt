@@ -5,7 +5,7 @@ ghost use Rattle.clap.specs.Words.{found_of, rows_of, subcommand_rows_of};
 ghost use Rattle.pmp_tool.specs.Commands.{access_in, access_task, asked, asked_of, audit_in, check_in, command_named};
 ghost use Rattle.pmp_tool.specs.Commands.{diff_in, folder_in, format_in, import_in, long_audit_in, options_in, options_with};
 ghost use Rattle.pmp_tool.specs.Commands.{path_in, policy_in, second_in, show_in, task_in};
-ghost use Rattle.pmp_tool.specs.Commands.{task_of, whole_audit_in};
+ghost use Rattle.pmp_tool.specs.Commands.{task_of, whole_audit_in, why_in};
 ghost use Rattle.pmp_tool.specs.Words.{result_map};
 
 use crate::argument::Argument;
@@ -13,7 +13,7 @@ use crate::command_name::CommandName;
 use crate::expected::Expected;
 use crate::fault_line::{FaultLine, Place};
 use crate::jobs::JOBS;
-use crate::request::{Audit, Check, Diff, Import, LongAudit, Request};
+use crate::request::{Audit, Check, Diff, Import, LongAudit, Request, Why};
 use crate::word::{Smepmp, Xlen, asked, count, is_bare_word, is_set, is_used, needed, word};
 use clap::ArgMatches;
 use pmp_audit::{Pace, View};
@@ -72,6 +72,7 @@ fn read_request<'a>(name: CommandName, words: &ArgMatches<'a>) -> Result<Request
 {
     match name {
         CommandName::Check => read_check(words),
+        CommandName::Why => read_why(words),
         CommandName::Audit => read_audit(words),
         CommandName::Policy => read_policy(words),
         CommandName::Dump if is_set(words, Argument::AsScript) => read_show(View::Script, words),
@@ -80,6 +81,7 @@ fn read_request<'a>(name: CommandName, words: &ArgMatches<'a>) -> Result<Request
         CommandName::Picture => read_show(View::Picture, words),
         CommandName::Entries => read_show(View::Entries, words),
         CommandName::Writes => Ok(Request::Writes),
+        CommandName::Lint => Ok(Request::Lint(asked(words, Argument::Accept)?)),
         CommandName::Diff => read_diff(words),
         CommandName::Harts => Ok(Request::Harts),
         CommandName::Import => read_import(words),
@@ -115,6 +117,18 @@ fn read_check<'a>(words: &ArgMatches) -> Result<Request<'a>, FaultLine>
         access,
         after,
         expected,
+        is_bare: is_bare_word(words, Argument::Start),
+    }))
+}
+
+fn read_why<'a>(words: &ArgMatches) -> Result<Request<'a>, FaultLine>
+    ensures { result_map task_of result ≡ why_in (rows_of (found_of words.now)) }
+{
+    let after = asked(words, Argument::After)?;
+    let access = read_access(words)?;
+    Ok(Request::Why(Why {
+        access,
+        after,
         is_bare: is_bare_word(words, Argument::Start),
     }))
 }

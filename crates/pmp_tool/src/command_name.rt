@@ -10,6 +10,7 @@ use crate::{help, topics};
 #[derive(Clone, Copy)]
 pub enum CommandName {
     Check,
+    Why,
     Audit,
     Policy,
     Dump,
@@ -17,6 +18,7 @@ pub enum CommandName {
     Picture,
     Entries,
     Writes,
+    Lint,
     Diff,
     Harts,
     Import,
@@ -24,8 +26,9 @@ pub enum CommandName {
 
 impl CommandName {
     /// All commands, in the order of the help.
-    pub const ALL: [CommandName; 11] = [
+    pub const ALL: [CommandName; 13] = [
         CommandName::Check,
+        CommandName::Why,
         CommandName::Audit,
         CommandName::Policy,
         CommandName::Dump,
@@ -33,6 +36,7 @@ impl CommandName {
         CommandName::Picture,
         CommandName::Entries,
         CommandName::Writes,
+        CommandName::Lint,
         CommandName::Diff,
         CommandName::Harts,
         CommandName::Import,
@@ -44,6 +48,7 @@ impl CommandName {
     {
         match self {
             CommandName::Check => "check",
+            CommandName::Why => "why",
             CommandName::Audit => "audit",
             CommandName::Policy => "policy",
             CommandName::Dump => "dump",
@@ -51,6 +56,7 @@ impl CommandName {
             CommandName::Picture => "picture",
             CommandName::Entries => "entries",
             CommandName::Writes => "writes",
+            CommandName::Lint => "lint",
             CommandName::Diff => "diff",
             CommandName::Harts => "harts",
             CommandName::Import => "import",
@@ -61,6 +67,7 @@ impl CommandName {
     pub fn about<'a>(self) -> &'a str {
         match self {
             CommandName::Check => help::CHECK,
+            CommandName::Why => help::WHY,
             CommandName::Audit => help::AUDIT,
             CommandName::Policy => help::POLICY,
             CommandName::Dump => help::DUMP,
@@ -68,6 +75,7 @@ impl CommandName {
             CommandName::Picture => help::PICTURE,
             CommandName::Entries => help::ENTRIES,
             CommandName::Writes => help::WRITES,
+            CommandName::Lint => help::LINT,
             CommandName::Diff => help::DIFF,
             CommandName::Harts => help::HARTS,
             CommandName::Import => help::IMPORT,
@@ -78,6 +86,7 @@ impl CommandName {
     pub fn more<'a>(self) -> &'a str {
         match self {
             CommandName::Check => topics::MORE_OF_CHECK,
+            CommandName::Why => topics::MORE_OF_WHY,
             CommandName::Audit => topics::MORE_OF_AUDIT,
             CommandName::Policy => topics::MORE_OF_POLICY,
             CommandName::Dump => topics::MORE_OF_DUMP,
@@ -85,6 +94,7 @@ impl CommandName {
             CommandName::Picture => topics::MORE_OF_PICTURE,
             CommandName::Entries => topics::MORE_OF_ENTRIES,
             CommandName::Writes => topics::MORE_OF_WRITES,
+            CommandName::Lint => topics::MORE_OF_LINT,
             CommandName::Diff => topics::MORE_OF_DIFF,
             CommandName::Harts => topics::MORE_OF_HARTS,
             CommandName::Import => topics::MORE_OF_IMPORT,
@@ -98,6 +108,7 @@ impl CommandName {
         use Argument::*;
         match self {
             CommandName::Check => &[Script, Explain, Mode, Kind, Start, Length, After, Expect],
+            CommandName::Why => &[Script, Explain, Mode, Kind, Start, Length, After],
             CommandName::Audit => &[Script, Explain, Trace, Checkers, Long, Jobs, FirstRow],
             CommandName::Policy => &[Script, Explain, Policy, EachWrite, Names],
             CommandName::Dump => &[Script, Explain, After, AsScript],
@@ -105,6 +116,7 @@ impl CommandName {
             CommandName::Picture => &[Script, Explain, After],
             CommandName::Entries => &[Script, Explain, After, Names],
             CommandName::Writes => &[Script, Explain],
+            CommandName::Lint => &[Script, Explain, Accept, Names],
             CommandName::Diff => &[Old, Explain, New, OldAfter, NewAfter, Only, Names],
             CommandName::Harts => &[Harts, Explain, Names],
             CommandName::Import => &[

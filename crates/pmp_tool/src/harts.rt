@@ -34,9 +34,9 @@ fn takes_folder(request: Request<'_>) -> bool
     ensures { result ≡ takes_folder request.entry }
 {
     match request {
-        Request::Check(_) | Request::Audit(_) | Request::Policy(..) => true,
+        Request::Check(_) | Request::Why(_) | Request::Audit(_) | Request::Policy(..) => true,
         Request::Show(View::Runs | View::Entries, _) | Request::Writes | Request::Diff(_) => true,
-        Request::Harts => true,
+        Request::Lint(_) | Request::Harts => true,
         Request::LongAudit(_) | Request::Show(..) | Request::Import(_) => false,
     }
 }

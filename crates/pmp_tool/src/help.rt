@@ -10,6 +10,9 @@ pub const ABOUT: &str =
 
 pub const CHECK: &str = "Decides one access after publications of a script, and writes its row";
 
+pub const WHY: &str =
+    "Says why one access is decided as it is: by which entry, since when, and by which lines of the script";
+
 pub const AUDIT: &str =
     "Decides each access of a trace after publications of a script, and writes a row for each";
 
@@ -32,6 +35,9 @@ pub const ENTRIES: &str =
 pub const WRITES: &str =
     "Writes what each write of a script changes, and why it isn't stored as written";
 
+pub const LINT: &str =
+    "Writes what a reader should look at: locks that don't hold, entries that decide nothing, bytes that are open";
+
 pub const DIFF: &str =
     "Writes where two scripts differ in what they let each mode do, after publications of each";
 
@@ -51,6 +57,9 @@ pub const NEW_AFTER: &str = "Takes the first M publications of the new script";
 
 pub const ONLY: &str =
     "Writes the rows that gain something, where CHANGE is more, or those that lose something, where it is less";
+
+pub const ACCEPT: &str =
+    "Leaves out findings with the name FINDING, or with FINDING:LINE those of one line";
 
 pub const SCRIPT: &str =
     "The path of a script of at most 1048576 bytes, 67108864 with pmp 3, or stdin for standard input; it begins with pmp 1 for a unit of \

@@ -26,6 +26,7 @@ fn columns_of(request: Request<'_>) -> Option<Columns>
         }
         Request::Show(View::Entries, _) => Some(Columns { first: 2, last: 3 }),
         Request::Policy(..) => Some(Columns { first: 3, last: 4 }),
+        Request::Lint(_) => Some(Columns { first: 4, last: 5 }),
         _ => None,
     }
 }

@@ -25,6 +25,8 @@ const OTHER: u8 = 1;
 pub enum Outcome {
     /// The decision on an access, and what was asked.
     Decided(Decision, Check),
+    /// Why an access is decided as it is was written; whether the word START has 14 digits and no `0x`.
+    Explained(Decision, bool),
     Audited(Summary),
     /// How many rows of a policy there are, and how many are broken.
     Judged(PolicySummary),
@@ -32,6 +34,8 @@ pub enum Outcome {
     Listed,
     /// What each write does was written.
     Replayed(WriteSummary),
+    /// So many findings were written.
+    Found(u64),
     /// So many rows were written, of where two register files differ.
     Compared(u64),
     /// A script was written of a log; the note says what was guessed.
@@ -46,11 +50,12 @@ impl Outcome {
     {
         match self {
             Outcome::Decided(decision, asked) if !asked.expected.is_met(decision) => OTHER,
+            Outcome::Explained(decision, _) if !decision.allowed => OTHER,
             Outcome::Audited(summary) => status_of(summary.faults),
             Outcome::Judged(summary) => status_of(summary.broken),
             Outcome::Replayed(summary) if summary.differing > 0 => OTHER,
             Outcome::Replayed(summary) => status_of(summary.not_stored),
-            Outcome::Compared(rows) => status_of(rows),
+            Outcome::Found(count) | Outcome::Compared(count) => status_of(count),
             _ => DONE,
         }
     }
@@ -68,6 +73,7 @@ impl Outcome {
     {
         match self {
             Outcome::Decided(_, asked) if asked.is_bare => Some(Note::Start),
+            Outcome::Explained(_, true) => Some(Note::Start),
             Outcome::Audited(summary) => Some(Note::TraceRow(summary.bare?)),
             Outcome::Judged(summary) => Some(Note::PolicyRow(summary.bare?)),
             Outcome::Imported(note) => Some(note),

@@ -7,6 +7,7 @@ use crate::expected::Expected;
 use pmp_audit::{Pace, View};
 use pmp_core::Access;
 use pmp_import::{Format, Options};
+use pmp_lint::Accepted;
 use pmp_share::CHECKERS;
 use pmp_text::{Only, When};
 
@@ -17,6 +18,16 @@ pub struct Check {
     /// When it is decided, where not after all publications.
     pub after: Option<When>,
     pub expected: Expected,
+    /// Whether the word START has 14 digits and no `0x`.
+    pub is_bare: bool,
+}
+
+/// Why an access is decided as it is.
+#[derive(Clone, Copy)]
+pub struct Why {
+    pub access: Access,
+    /// When it is decided, where not after all publications.
+    pub after: Option<When>,
     /// Whether the word START has 14 digits and no `0x`.
     pub is_bare: bool,
 }
@@ -70,6 +81,7 @@ pub struct Diff<'a> {
 #[derive(Clone, Copy)]
 pub enum Request<'a> {
     Check(Check),
+    Why(Why),
     Audit(Audit<'a>),
     LongAudit(LongAudit<'a>),
     /// The path of the policy, and how often it asks.
@@ -77,6 +89,8 @@ pub enum Request<'a> {
     /// What is shown, and when, where not after all publications.
     Show(View, Option<When>),
     Writes,
+    /// What is found in it, and which findings are accepted.
+    Lint(Option<Accepted>),
     Diff(Diff<'a>),
     /// Where the harts of a folder differ.
     Harts,

@@ -82,11 +82,11 @@ the entry.
 `reset` or `publish`, in any order, each field of the hart once, and each
 register once. A `reset` leaves nothing of what is set, and keeps the hart.
 
-Where a folder stands in the place of SCRIPT, OLD or NEW, `check`, `audit`,
-`policy`, `map`, `entries`, `writes` and `diff` are asked of each hart: of each
-file there whose name ends with `.pmp` and begins with no dot. Each line of the
-answer begins with that name and a comma, and all is well where it is on each
-hart.
+Where a folder stands in the place of SCRIPT, OLD or NEW, `check`, `why`,
+`audit`, `policy`, `map`, `entries`, `writes`, `lint` and `diff` are asked of
+each hart: of each file there whose name ends with `.pmp` and begins with no
+dot. Each line of the answer begins with that name and a comma, and all is well
+where it is on each hart.
 
 `pmp harts` compares each hart of a folder with the first one, and writes the
 rows of `diff` where they differ, each behind the name of the other hart. Where
@@ -182,6 +182,18 @@ each event of the script, in order, and behind them a row for each `expect`.
   1,1,2,pmpcfg0,0x0000000000000099,0x0000000000000000,0x0000000000000099,stored,,
   2,1,3,pmpcfg0,0x0000000000000000,0x0000000000000099,0x0000000000000099,ignored,frozen,0
 
+`pmp lint` writes `NUMBER,NAME,LINE,ENTRY,FIRST,LAST,MODES` for each thing that
+an experienced reader would remark of a script, by the numbers of what is found,
+and of one number by entries, by addresses or by events.
+
+  2,mmwp-off,2,,,,
+
+`pmp why` writes
+`SINCE,ANSWER,FAULT,CAUSE,ENTRY,MATCHING,FIRST,LAST,BITS,TABLE,LOCK,HELD,CONFIGURED,ADDRESSED,LOWEND`:
+how an access is decided, since when, and what the entry that decides is.
+
+  1,fault,7,rule,0,napot,00000080000000,00000080000fff,1100,plain,frozen,held,3,2,
+
 `pmp diff` writes `FIRST,LAST,MOLD,SUOLD,MNEW,SUNEW,CHANGE` for the longest
 ranges of bytes where the register files of two scripts differ in what they let
 the modes do, whoever owns the bytes, from the lowest address on.
@@ -208,11 +220,11 @@ describes all of it byte by byte, and has every refusal by its number.";
 pub const MORE: &str = "\
 Exit status:
   0  every access is allowed or answered as --expect says, every row of a policy
-     holds, every write is stored as written, diff or harts has nothing to
+     holds, every write is stored as written, lint, diff or harts has nothing to
      write, or what was asked for is written
   1  an access is refused or answered as --expect doesn't say, a row of a policy
      is broken, a write isn't stored as written, a register differs from what a
-     script expects, or diff or harts writes a row
+     script expects, or lint, diff or harts writes a row
   2  no answer: the words or an input are at fault
   3  no answer: memory, an input, the output or a checker failed
 
@@ -248,6 +260,62 @@ Exit status:
 Example:
   echo 'pmp 1' | pmp check stdin U load 0x80000ff8 8 --expect fault
   It answers 1,fault,5,none,
+
+docs/FORMATS.md describes all of it byte by byte, and has every refusal by its
+number.";
+
+pub const MORE_OF_WHY: &str = "\
+A number is 1 to 20 decimal digits, or `0x` and 1 to 16 hexadecimal digits, and
+is below 2^64. Without `0x` it is decimal, whatever its digits.
+
+`pmp why` writes
+`SINCE,ANSWER,FAULT,CAUSE,ENTRY,MATCHING,FIRST,LAST,BITS,TABLE,LOCK,HELD,CONFIGURED,ADDRESSED,LOWEND`:
+how an access is decided, since when, and what the entry that decides is.
+  SINCE                        the first number of publications from which on
+                               the access is decided so, up to those that are
+                               asked for
+  ANSWER, FAULT, CAUSE, ENTRY  as in report rows
+  MATCHING, FIRST, LAST        how the entry's address is read, and the bytes
+                               that it matches, as in entry lines
+  BITS                         its bits L, R, W and X
+  TABLE                        what reads them: smepmp, the table of Smepmp,
+                               where MML is 1, else plain
+  LOCK                         -, bypassed or frozen, as in entry lines
+  HELD                         held where it and all entries before it are
+                               frozen, else -
+  CONFIGURED                   the line that changed its configuration byte
+                               last, 0 where none did
+  ADDRESSED                    the line that changed its address register last,
+                               0 where none did
+  LOWEND                       where it is TOR and not entry 0, the line that
+                               changed the address register before it last; else
+                               empty
+
+Where no entry decides, the fields from ENTRY on are empty. After that row come
+report rows of the same access, one for each run of moments with the same
+ANSWER, CAUSE and ENTRY, whose number is the first of these moments: 0 is the
+one before the first publication.
+
+`pmp check` writes `N,ANSWER,FAULT,CAUSE,ENTRY` for its access, and `pmp audit`
+for each row of the trace, in order.
+  N       the row's number, from 1
+  ANSWER  allow or fault
+  FAULT   empty where the access is allowed, else its exception code: 1 for a
+          fetch, 5 for a load, 7 for a store
+  CAUSE   rule where an entry matches every byte of the access, split where the
+          first entry that matches a byte doesn't match them all, none where no
+          entry matches any byte
+  ENTRY   the number of that entry, empty under none
+
+Exit status:
+  0  the access is allowed
+  1  it is refused
+  2  no answer: the words or an input are at fault
+  3  no answer: memory, an input, the output or a checker failed
+
+Example:
+  printf 'pmp 1\\nwrite pmpaddr0 0x200001ff\\nwrite pmpcfg0 0x99\\npublish\\n' | pmp why stdin U store 0x80000000 8
+  It answers 1,fault,7,rule,0,napot,00000080000000,00000080000fff,1100,plain,frozen,held,3,2,
 
 docs/FORMATS.md describes all of it byte by byte, and has every refusal by its
 number.";
@@ -370,11 +438,11 @@ With `--each-write` a policy asks after each event behind publication `from`
 too, up to `to`, which still count publications. DONE is then how many events
 are done, which is N of the event rows.
 
-With `--names FILE`, `policy`, `map`, `entries`, `diff` and `harts` write behind
-each row a comma and the names that the bytes from FIRST to LAST have, in the
-order of the file, with blanks between them: NAME where all that has the name is
-in the range, and NAME`+0x`OFFSET where only a part is, which begins OFFSET
-bytes behind the first byte of NAME.
+With `--names FILE`, `policy`, `map`, `entries`, `lint`, `diff` and `harts`
+write behind each row a comma and the names that the bytes from FIRST to LAST
+have, in the order of the file, with blanks between them: NAME where all that
+has the name is in the range, and NAME`+0x`OFFSET where only a part is, which
+begins OFFSET bytes behind the first byte of NAME.
 
   first,last,name
   0x80000000,0x8003ffff,firmware
@@ -444,11 +512,11 @@ row that have one owner, the lowest-numbered entry that matches them, or none.
 An access that lies in one run is decided by that run's rights. One that
 straddles runs is refused, as `split` by the least owner in it.
 
-With `--names FILE`, `policy`, `map`, `entries`, `diff` and `harts` write behind
-each row a comma and the names that the bytes from FIRST to LAST have, in the
-order of the file, with blanks between them: NAME where all that has the name is
-in the range, and NAME`+0x`OFFSET where only a part is, which begins OFFSET
-bytes behind the first byte of NAME.
+With `--names FILE`, `policy`, `map`, `entries`, `lint`, `diff` and `harts`
+write behind each row a comma and the names that the bytes from FIRST to LAST
+have, in the order of the file, with blanks between them: NAME where all that
+has the name is in the range, and NAME`+0x`OFFSET where only a part is, which
+begins OFFSET bytes behind the first byte of NAME.
 
   first,last,name
   0x80000000,0x8003ffff,firmware
@@ -537,11 +605,11 @@ none refuses what it allows while MML stays as it is. Where an entry is frozen
 and HOLDS is empty, one with a lower number isn't frozen, and may be able to
 take its bytes.
 
-With `--names FILE`, `policy`, `map`, `entries`, `diff` and `harts` write behind
-each row a comma and the names that the bytes from FIRST to LAST have, in the
-order of the file, with blanks between them: NAME where all that has the name is
-in the range, and NAME`+0x`OFFSET where only a part is, which begins OFFSET
-bytes behind the first byte of NAME.
+With `--names FILE`, `policy`, `map`, `entries`, `lint`, `diff` and `harts`
+write behind each row a comma and the names that the bytes from FIRST to LAST
+have, in the order of the file, with blanks between them: NAME where all that
+has the name is in the range, and NAME`+0x`OFFSET where only a part is, which
+begins OFFSET bytes behind the first byte of NAME.
 
   first,last,name
   0x80000000,0x8003ffff,firmware
@@ -630,6 +698,82 @@ Example:
 docs/FORMATS.md describes all of it byte by byte, and has every refusal by its
 number.";
 
+pub const MORE_OF_LINT: &str = "\
+A number is 1 to 20 decimal digits, or `0x` and 1 to 16 hexadecimal digits, and
+is below 2^64. Without `0x` it is decimal, whatever its digits.
+
+`pmp lint` writes `NUMBER,NAME,LINE,ENTRY,FIRST,LAST,MODES` for each thing that
+an experienced reader would remark of a script, by the numbers of what is found,
+and of one number by entries, by addresses or by events.
+  1 rlb-left-on         in the end RLB is 1 and an entry has its lock bit set,
+                        be it off or not: no lock binds
+  2 mmwp-off            in the end MML is 1 and MMWP is 0: machine mode may read
+                        and write where no entry matches
+  3 open-before-locked  in the end an entry isn't frozen, and one with a higher
+                        number is: it may still take bytes of that one
+  4 never-decides       in the end an entry is on and owns no byte: it matches
+                        none, or entries with lower numbers match them all
+  5 write-and-execute   bytes side by side that one entry owns, or none, and
+                        that in the end a mode may both write and execute
+  6 open-between        bytes that S and U may read, write or execute after a
+                        single event, but neither before its publication nor
+                        after it
+  7 late-write          a frozen entry is a reason why a register doesn't read
+                        what is written to it
+  LINE   of 1 the line that changed RLB last, of 2 MML or MMWP, of 3 to 5 the
+         entry's byte or its address register; 0 where none did, or where no
+         entry owns the bytes; of 6 and 7 the event's own line
+  ENTRY  the entry's number; empty for 1, 2 and 6, and where no entry owns the
+         bytes
+  FIRST  the byte address of the first byte that the entry matches, for 5 and 6
+         of the bytes that are found; else empty
+  LAST   that of the last one, or empty
+  MODES  the letters of the modes, M, SU or MSU, for 5 and 6; else empty
+
+`--accept NAME` leaves the findings of this name out, and `--accept NAME:LINE`
+those of the name at this line.
+
+What mends each of them:
+  rlb-left-on         Clear RLB in mseccfg once the entries are locked.
+  mmwp-off            Set MMWP in mseccfg together with MML.
+  open-before-locked  Lock this entry too, or put it behind those that are
+                      locked.
+  never-decides       Turn the entry off, or put it before the entries that take
+                      its bytes.
+  write-and-execute   Take W or X away, or part the bytes into code and data.
+  open-between        Write the entry that closes the bytes before the one that
+                      opens others.
+  late-write          Write the register before the entry is locked, or leave
+                      the write out.
+
+With `--names FILE`, `policy`, `map`, `entries`, `lint`, `diff` and `harts`
+write behind each row a comma and the names that the bytes from FIRST to LAST
+have, in the order of the file, with blanks between them: NAME where all that
+has the name is in the range, and NAME`+0x`OFFSET where only a part is, which
+begins OFFSET bytes behind the first byte of NAME.
+
+  first,last,name
+  0x80000000,0x8003ffff,firmware
+  0x10000000,0x10000fff,uart
+
+The file has that first line, and a line with these fields for each name: the
+byte address of the first byte, that of the last one, not below, and the name: 1
+to 64 printable bytes, no blank, `\"`, `+` or `,`, of which the first is no
+digit.
+
+Exit status:
+  0  there is no row to write
+  1  rows were written
+  2  no answer: the words or an input are at fault
+  3  no answer: memory, an input, the output or a checker failed
+
+Example:
+  printf 'pmp 1\\nwrite mseccfg 1\\npublish\\n' | pmp lint stdin
+  It answers 2,mmwp-off,2,,,,
+
+docs/FORMATS.md describes all of it byte by byte, and has every refusal by its
+number.";
+
 pub const MORE_OF_DIFF: &str = "\
 A number is 1 to 20 decimal digits, or `0x` and 1 to 16 hexadecimal digits, and
 is below 2^64. Without `0x` it is decimal, whatever its digits.
@@ -651,11 +795,11 @@ With `--only more` no row says `less`, and with `--only less` no row says
 `more`; rows that say `both` stay. The two states alone are compared: neither
 what was open before them, nor how entries are locked.
 
-With `--names FILE`, `policy`, `map`, `entries`, `diff` and `harts` write behind
-each row a comma and the names that the bytes from FIRST to LAST have, in the
-order of the file, with blanks between them: NAME where all that has the name is
-in the range, and NAME`+0x`OFFSET where only a part is, which begins OFFSET
-bytes behind the first byte of NAME.
+With `--names FILE`, `policy`, `map`, `entries`, `lint`, `diff` and `harts`
+write behind each row a comma and the names that the bytes from FIRST to LAST
+have, in the order of the file, with blanks between them: NAME where all that
+has the name is in the range, and NAME`+0x`OFFSET where only a part is, which
+begins OFFSET bytes behind the first byte of NAME.
 
   first,last,name
   0x80000000,0x8003ffff,firmware
@@ -684,11 +828,11 @@ pub const MORE_OF_HARTS: &str = "\
 A number is 1 to 20 decimal digits, or `0x` and 1 to 16 hexadecimal digits, and
 is below 2^64. Without `0x` it is decimal, whatever its digits.
 
-Where a folder stands in the place of SCRIPT, OLD or NEW, `check`, `audit`,
-`policy`, `map`, `entries`, `writes` and `diff` are asked of each hart: of each
-file there whose name ends with `.pmp` and begins with no dot. Each line of the
-answer begins with that name and a comma, and all is well where it is on each
-hart.
+Where a folder stands in the place of SCRIPT, OLD or NEW, `check`, `why`,
+`audit`, `policy`, `map`, `entries`, `writes`, `lint` and `diff` are asked of
+each hart: of each file there whose name ends with `.pmp` and begins with no
+dot. Each line of the answer begins with that name and a comma, and all is well
+where it is on each hart.
 
 `pmp harts` compares each hart of a folder with the first one, and writes the
 rows of `diff` where they differ, each behind the name of the other hart. Where
@@ -711,11 +855,11 @@ With `--only more` no row says `less`, and with `--only less` no row says
 `more`; rows that say `both` stay. The two states alone are compared: neither
 what was open before them, nor how entries are locked.
 
-With `--names FILE`, `policy`, `map`, `entries`, `diff` and `harts` write behind
-each row a comma and the names that the bytes from FIRST to LAST have, in the
-order of the file, with blanks between them: NAME where all that has the name is
-in the range, and NAME`+0x`OFFSET where only a part is, which begins OFFSET
-bytes behind the first byte of NAME.
+With `--names FILE`, `policy`, `map`, `entries`, `lint`, `diff` and `harts`
+write behind each row a comma and the names that the bytes from FIRST to LAST
+have, in the order of the file, with blanks between them: NAME where all that
+has the name is in the range, and NAME`+0x`OFFSET where only a part is, which
+begins OFFSET bytes behind the first byte of NAME.
 
   first,last,name
   0x80000000,0x8003ffff,firmware

@@ -4,6 +4,7 @@ ghost use Rattle.std.specs.Prelude.{◌≡◌, ◌≤◌, List, ℕ, Option, opt
 ghost use Rattle.clap.specs.Words.{found_of, rows_of};
 ghost use Rattle.pmp_core.specs.declared.access.Kind.{Kind};
 ghost use Rattle.pmp_core.specs.declared.access.Mode.{Mode};
+ghost use Rattle.pmp_lint.specs.Findings.{accepted_said};
 ghost use Rattle.pmp_text.specs.AccessWords.{kind_named, mode_named};
 ghost use Rattle.pmp_text.specs.Moments.{when_said};
 ghost use Rattle.pmp_text.specs.Numbers.{word_number};
@@ -16,6 +17,7 @@ use crate::expected::Expected;
 use crate::fault_line::{FaultLine, Place};
 use clap::ArgMatches;
 use pmp_core::{Kind, Mode};
+use pmp_lint::Accepted;
 use pmp_text::{Only, Refusal, When, is_bare, read_kind, read_mode, read_word_number};
 
 impl FaultLine {
@@ -81,6 +83,15 @@ impl Form for Expected {
             "fault" => Some(Expected::Fault),
             _ => None,
         }
+    }
+}
+
+impl Form for Accepted {
+    ghost named = { accepted_said };
+
+    /// `NAME` or `NAME:LINE`, as `pmp lint` writes them.
+    fn read(word: &str) -> Option<Accepted> {
+        Accepted::read(word.as_bytes())
     }
 }
 

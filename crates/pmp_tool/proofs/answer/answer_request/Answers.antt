@@ -11,6 +11,14 @@ pub returns-in-Check-clause-err : goal.returns-in-Check-clause-err
 returns-in-Check-clause-err g c = rw c.in-Check.is
     (c.answer_check.ensures.err (g.I.Inputs.scripts c.args.inputs.now) (g.I.Inputs.traces c.args.inputs.now))
 
+pub returns-in-Why-clause-ok : goal.returns-in-Why-clause-ok
+returns-in-Why-clause-ok g c = rw c.in-Why.is
+    (c.answer_why.ensures.ok (g.I.Inputs.scripts c.args.inputs.now) (g.I.Inputs.traces c.args.inputs.now))
+
+pub returns-in-Why-clause-err : goal.returns-in-Why-clause-err
+returns-in-Why-clause-err g c = rw c.in-Why.is
+    (c.answer_why.ensures.err (g.I.Inputs.scripts c.args.inputs.now) (g.I.Inputs.traces c.args.inputs.now))
+
 pub returns-in-Show-clause-ok : goal.returns-in-Show-clause-ok
 returns-in-Show-clause-ok g c = rw c.in-Show.is
     (c.answer_show.ensures.ok (g.I.Inputs.scripts c.args.inputs.now) (g.I.Inputs.traces c.args.inputs.now))
@@ -27,6 +35,14 @@ returns-in_err-writes-in-Writes-clause-err g c =
     (refused_so _ _ (g.I.Inputs.scripts c.args.inputs.now) (g.I.Inputs.traces c.args.inputs.now) c.args.script.now
     request.Writes exit.result (unaudited fault) exit.ensures.1
     (declined fault c.in_err-writes-in-Writes.ensures.err))
+
+pub returns-in-Lint-clause-ok : goal.returns-in-Lint-clause-ok
+returns-in-Lint-clause-ok g c = rw c.in-Lint.is
+    (c.answer_lint.ensures.ok (g.I.Inputs.scripts c.args.inputs.now) (g.I.Inputs.traces c.args.inputs.now))
+
+pub returns-in-Lint-clause-err : goal.returns-in-Lint-clause-err
+returns-in-Lint-clause-err g c = rw c.in-Lint.is
+    (c.answer_lint.ensures.err (g.I.Inputs.scripts c.args.inputs.now) (g.I.Inputs.traces c.args.inputs.now))
 
 pub returns-in-Audit-clause-ok : goal.returns-in-Audit-clause-ok
 returns-in-Audit-clause-ok g c = rw c.in-Audit.is c.answer_audit.ensures.ok

@@ -1,0 +1,115 @@
+//! Why an access is decided as it is after publications of a script, and what is found in a script.
+
+ghost use Rattle.std.specs.Prelude.{◌≡◌, ◌++◌, IfErr, IfOk, OnErr, OnOk};
+ghost use Rattle.pmp_audit.specs.Answers.{Declines, IsAppended, IsRefused, IsWritten};
+ghost use Rattle.pmp_audit.specs.AskedFile.{FileRefuses};
+ghost use Rattle.pmp_audit.specs.Reasons.{FindingsSay, ReasonsSay, reasons_text};
+ghost use Rattle.pmp_audit.specs.WriteList.{WritesRefuse};
+
+use crate::answer::write_answer;
+use crate::asked_count::asked_count;
+use crate::fault::AuditFault;
+use pmp_core::{Access, Decision};
+use pmp_lint::{
+    Accepted, AnswerRun, Because, append_history, append_lint, append_why, history, why,
+};
+use pmp_text::{EventLog, GrowingLog, NoMemory, Sink, When, read_script};
+use std::alloc::Global;
+use std::io::Write;
+
+/// Decides the access after the publications of the script that are done then, or after all of them where that is none,
+/// and writes why it is decided so, and behind that row the report rows of its decisions at all moments.
+///
+/// The rows are whole before their first byte is written, so every refusal but `Output` leaves the output untouched.
+pub fn explain<W: Write>(
+    alloc: Global,
+    script: &[u8],
+    access: &Access,
+    after: Option<When>,
+    writer: &mut W,
+) -> Result<Decision, AuditFault>
+    ensures ok { IfOk result
+        (IsWritten (ReasonsSay script.now access.now after) (W.contents writer.old) (W.contents writer.new)) }
+    ensures err { IfErr result
+        (IsRefused (ReasonsSay script.now access.now after) (W.contents writer.old) (W.contents writer.new)
+        (FileRefuses script.now after)) }
+{
+    let mut text = Vec::new(alloc);
+    let mut log = GrowingLog::new(alloc);
+    let told = append_reasons(alloc, &mut log, script, access, after, &mut text);
+    write_answer(writer, &text, told)
+}
+
+/// Appends the rows that `explain` writes. The script's events are kept in the log, and `Memory` says that they have no
+/// room there, or the rows none.
+pub fn append_reasons<L: EventLog, S: Sink>(
+    alloc: Global,
+    log: &mut L,
+    script: &[u8],
+    access: &Access,
+    after: Option<When>,
+    out: &mut S,
+) -> Result<Decision, AuditFault>
+    ensures ok { IfOk result
+        (IsAppended (ReasonsSay script.now access.now after) (S.text out.old) (S.text out.new)) }
+    ensures err { IfErr result (Declines (FileRefuses script.now after)) }
+    ensures kept { OnErr result (S.text out.new ≡ S.text out.old) }
+{
+    let script = read_script(log, script)?;
+    let done = asked_count(&script, after)?;
+    let reason = why(&script, done, access);
+    let runs = history(alloc, &script, access)?;
+    write_reasons(out, access, &reason, &runs)?;
+    Ok(reason.decision)
+}
+
+fn write_reasons<S: Sink>(
+    out: &mut S,
+    access: &Access,
+    reason: &Because,
+    runs: &[AnswerRun],
+) -> Result<(), NoMemory>
+    ensures ok { OnOk result (S.text out.new ≡ S.text out.old ++ reasons_text access.now reason.now runs.now) }
+    ensures err { OnErr result (S.text out.new ≡ S.text out.old) }
+{
+    let before = out.position();
+    append_why(out, access, reason)?;
+    let written = append_history(out, access, runs);
+    if written.is_err() {
+        out.go_back(before);
+    }
+    written
+}
+
+/// Writes a row for each finding of the script that isn't accepted, lint after lint, and answers how many these are.
+///
+/// The rows are whole before their first byte is written, so every refusal but `Output` leaves the output untouched.
+pub fn lint<W: Write>(
+    alloc: Global,
+    script: &[u8],
+    accepted: &[Accepted],
+    writer: &mut W,
+) -> Result<usize, AuditFault>
+    ensures ok { IfOk result
+        (IsWritten (FindingsSay script.now accepted.now) (W.contents writer.old) (W.contents writer.new)) }
+    ensures err { IfErr result
+        (IsRefused (FindingsSay script.now accepted.now) (W.contents writer.old) (W.contents writer.new)
+        (WritesRefuse script.now)) }
+{
+    let mut text = Vec::new(alloc);
+    let told = find_in(alloc, script, accepted, &mut text);
+    write_answer(writer, &text, told)
+}
+
+fn find_in(
+    alloc: Global,
+    script: &[u8],
+    accepted: &[Accepted],
+    out: &mut Vec<u8>,
+) -> Result<usize, AuditFault>
+    ensures ok { IfOk result (IsAppended (FindingsSay script.now accepted.now) out.old.items out.new.items) }
+    ensures err { IfErr result (Declines (WritesRefuse script.now)) }
+{
+    let mut log = GrowingLog::new(alloc);
+    Ok(append_lint(alloc, &mut log, script, accepted, out)?)
+}
