@@ -1,5 +1,5 @@
 -- A comparison with the first hart of a folder.
-use Rattle.std.proofs.Common.{◌≡◌, ◌∙◌, ◌<◌, ◌≤◌, ◌∷◌, [], ap, sym, refl, ℕ, List, Option, Some, None, Bor, length, option_map, true, false}
+use Rattle.std.proofs.Common.{◌≡◌, ◌∙◌, ◌≤◌, ◌∷◌, [], ap, refl, List, Some, None, length, option_map, true, false}
 use Rattle.std.proofs.Common.{arith}
 use Rattle.std.specs.List.{slice_get}
 use Rattle.clap.specs.Words.{Text}
@@ -7,7 +7,7 @@ use Rattle.pmp_names.specs.declared.hart_name.HartName.{HartName}
 use Rattle.pmp_names.specs.HartLists.{names_of}
 use Rattle.pmp_tool.specs.declared.command.Command.{Command}
 use Rattle.pmp_tool.specs.declared.harts.Harts.{Harts}
-use Rattle.pmp_tool.specs.Commands.{Diff, asked, task_of}
+use Rattle.pmp_tool.specs.Commands.{Diff, asked}
 use Rattle.pmp_tool.specs.HartComparisons.{IsComparison}
 use Rattle.pmp_tool.specs.Harts.{path_on}
 

@@ -1,5 +1,5 @@
 -- The scripts of the harts of a log so far.
-use Rattle.std.proofs.Common.{◌≡◌, ◌<◌, ◌+◌, ◌∙◌, ◌++◌, ◌∷◌, [], ap, sym, refl, append_assoc, ℕ, List, Bool, true, false, length}
+use Rattle.std.proofs.Common.{◌≡◌, ◌+◌, ◌∙◌, ◌++◌, ◌∷◌, [], ap, sym, append_assoc, ℕ, List, true, false, length}
 use Rattle.std.proofs.Common.{map, nat_eq, arith}
 use Rattle.std.proofs.lemmas.List.{map-append}
 use Rattle.std.specs.Prelude.{if◌then◌else◌}

@@ -1,5 +1,5 @@
 -- How the harts of a command's folders are found.
-use Rattle.std.specs.Prelude.{◌≡◌, ◌⊎◌, List, [], Bool, true, false, Option, Some, None, option_map, ⊤}
+use Rattle.std.specs.Prelude.{◌≡◌, List, [], true, false, Option, Some, None, option_map, ⊤}
 use Rattle.std.specs.declared.vec.Vec.{Vec}
 use Rattle.clap.specs.Words.{Text}
 use Rattle.pmp_text.specs.declared.refusal.Refusal.{Refusal}

@@ -1,6 +1,6 @@
 -- A command that is asked of each hart of a folder of scripts, and what it answers.
 use Rattle.std.specs.Prelude.{◌≡◌, ◌⊎◌, ℕ, List, [], ◌∷◌, ◌++◌, map, fold, codes, Bool, true, false, ◌||◌, ◌==◌}
-use Rattle.std.specs.Prelude.{Option, Some, None, IfSome, if◌then◌else◌, All}
+use Rattle.std.specs.Prelude.{Option, Some, None, if◌then◌else◌, All}
 use Rattle.std.specs.Io.KnownBytes.{Appends, Keeps}
 use Rattle.std.specs.List.{flat_map}
 use Rattle.std.specs.Str.{bytes_eq}
@@ -26,7 +26,6 @@ use Rattle.pmp_tool.specs.Commands.{Asked, Diff, Task, asked}
 use Rattle.pmp_tool.specs.Failures.{in_memory, of_hart, refused, unread}
 use Rattle.pmp_tool.specs.Names.{named_by}
 use Rattle.pmp_tool.specs.Inputs.{CantBeOpened, Folders, Inputs, IsFolder}
-use Rattle.pmp_tool.specs.Requests.{old_side}
 use Rattle.pmp_tool.specs.CommandAnswers.{CommandAnswers, CommandFails, outcome_status}
 
 -- ---- which harts a command is asked of

@@ -1,9 +1,8 @@
-use Rattle.std.proofs.Common.{refl, rules, sym, ap, ◌∙◌}
+use Rattle.std.proofs.Common.{refl, rules}
 use Rattle.std.proofs.lemmas.Result.{IfErr-weaker, IfOk-weaker, err_from_is_err_and}
 use Rattle.std.proofs.KnownBytes.{Keeps-refl}
-use Rattle.pmp_names.specs.HartLists.{names_of}
 use Rattle.pmp_tool.specs.HartComparisons.{cant_compare, no_first, no_path}
-use Rattle.pmp_tool.proofs.HartComparing.{are_none, first_of, is_comparison}
+use Rattle.pmp_tool.proofs.HartComparing.{are_none, is_comparison}
 use Rattle.pmp_tool.proofs.hart_comparison.compare_harts.Goals as goal
 
 pub returns-in_default-clause-err : goal.returns-in_default-clause-err

@@ -1,0 +1,53 @@
+//! Why a plan has no registers.
+
+ghost use Rattle.std.specs.Prelude.{◌≡◌};
+ghost use Rattle.pmp_plan.specs.PlanFaults.{refusal_of};
+ghost use Rattle.pmp_plan.specs.declared.fault.PlanFault.TheVariants.{Memory};
+
+use pmp_text::Refusal;
+use std::alloc::AllocError;
+
+/// Why a plan is refused. A row is named by its index, from 0.
+#[derive(Clone, Copy, Debug, PartialEq, Eq)]
+pub enum PlanFault {
+    /// These two rows have a byte in common.
+    Overlap { row: usize, other: usize },
+    /// A row whose field with this number, from 0, isn't at an end of a grain: the first byte or the last.
+    TooFine { row: usize, field: usize },
+    /// A row that has bytes above the hart's addresses.
+    PastEnd { row: usize },
+    /// A row whose rights no entry gives on this hart with these bits of `mseccfg`, or none that can be held.
+    BadPair { row: usize },
+    /// The hart keeps other bits of `mseccfg`: it is one without Smepmp.
+    NotHeld,
+    /// The fewest entries that were found are so many, and the hart hasn't as many.
+    FewEntries { found: usize },
+    /// No entries were found within the bound of the search. There may be some.
+    Stopped,
+    Memory,
+}
+
+impl PlanFault {
+    pub fn refusal(self) -> Refusal
+        ensures { result ≡ refusal_of self }
+    {
+        match self {
+            PlanFault::Overlap { .. } => Refusal::Overlap,
+            PlanFault::TooFine { .. } => Refusal::TooFine,
+            PlanFault::PastEnd { .. } => Refusal::PastEnd,
+            PlanFault::BadPair { .. } => Refusal::BadPair,
+            PlanFault::NotHeld => Refusal::NotHeld,
+            PlanFault::FewEntries { .. } => Refusal::FewEntries,
+            PlanFault::Stopped => Refusal::Stopped,
+            PlanFault::Memory => Refusal::Memory,
+        }
+    }
+}
+
+impl From<AllocError> for PlanFault {
+    ghost from_gives = { λ _ fault. fault ≡ Memory };
+
+    fn from(_: AllocError) -> PlanFault {
+        PlanFault::Memory
+    }
+}

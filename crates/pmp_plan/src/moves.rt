@@ -1,0 +1,137 @@
+//! The entries that may come next.
+
+use crate::choices::LOCK;
+use crate::level::Level;
+use crate::parts::{PARTS, Parts};
+use crate::state::{Chosen, State};
+use pmp_core::ByteRange;
+use std::alloc::AllocError;
+
+/// A of a configuration byte: top of range.
+const TOR: u8 = 8;
+
+/// A of a configuration byte: naturally aligned four bytes.
+const NA4: u8 = 16;
+
+/// A of a configuration byte: a naturally aligned power of two of eight bytes or more.
+const NAPOT: u8 = 24;
+
+/// The states that one entry more leads to, and those that two more lead to.
+#[derive(Drop)]
+pub struct Next<'a> {
+    pub one: &'a mut Level,
+    pub two: &'a mut Level,
+}
+
+/// An entry for what is left of a part: its rule, and where it may match.
+#[derive(Clone, Copy)]
+struct Candidate {
+    rule: u8,
+    /// Whether it and all entries before it are frozen.
+    is_frozen: bool,
+    /// The first byte that is left of the part.
+    first: u64,
+    /// The bytes in which nothing else is asked of what is left.
+    room: ByteRange,
+}
+
+/// A naturally aligned block.
+fn block_entry(rule: u8, block: ByteRange) -> Chosen {
+    let size = block.end.saturating_sub(block.start);
+    let address = block.start / 4;
+    if size <= 4 {
+        return Chosen {
+            configuration: rule | NA4,
+            address,
+        };
+    }
+    Chosen {
+        configuration: rule | NAPOT,
+        address: address | (size / 8).saturating_sub(1),
+    }
+}
+
+fn top_entry(rule: u8, end: u64) -> Chosen {
+    Chosen {
+        configuration: rule | TOR,
+        address: end / 4,
+    }
+}
+
+/// An entry whose address another begins its range at.
+fn low_entry(rule: u8, start: u64) -> Chosen {
+    Chosen {
+        configuration: rule & LOCK,
+        address: start / 4,
+    }
+}
+
+impl Candidate {
+    /// The largest block.
+    fn take_block(&self, parts: &Parts, from: &State, next: &mut Level) -> Result<(), AllocError> {
+        match parts.block_at(self.first, self.room) {
+            Some(block) => {
+                let entry = block_entry(self.rule, block);
+                next.offer(from.behind(parts, entry, block, self.is_frozen))
+            }
+            None => Ok(()),
+        }
+    }
+
+    /// The longest range, where the last entry ends.
+    fn take_chain(&self, parts: &Parts, from: &State, next: &mut Level) -> Result<(), AllocError> {
+        let end = parts.top_at(self.room.end);
+        match from.chain {
+            Some(start) if self.room.start <= start && start <= self.first && self.first < end => {
+                let entry = top_entry(self.rule, end);
+                next.offer(from.behind(parts, entry, ByteRange { start, end }, self.is_frozen))
+            }
+            _ => Ok(()),
+        }
+    }
+
+    /// The longest range, and before it an entry that is off for where it begins.
+    fn take_two(&self, parts: &Parts, from: &State, next: &mut Level) -> Result<(), AllocError> {
+        let (start, end) = (self.first, parts.top_at(self.room.end));
+        if end <= start {
+            return Ok(());
+        }
+        let low = low_entry(self.rule, start);
+        let between = from.behind(parts, low, ByteRange::EMPTY, self.is_frozen);
+        let entry = top_entry(self.rule, end);
+        next.offer(between.behind(parts, entry, ByteRange { start, end }, self.is_frozen))
+    }
+}
+
+/// The candidate for a part with a rule, where it may come next.
+fn candidate_for(parts: &Parts, from: &State, index: usize, rule: u8) -> Option<Candidate> {
+    let left = from.left_of(index)?;
+    let part = parts.list.get(index)?;
+    let is_frozen = from.is_frozen && parts.rules.holds(rule);
+    if part.demand.is_locked && !is_frozen {
+        return None;
+    }
+    Some(Candidate {
+        rule,
+        is_frozen,
+        first: left.start,
+        room: from.room(parts, index, is_frozen),
+    })
+}
+
+/// Offers what one entry more, or two, leads to.
+pub fn expand(parts: &Parts, from: &State, next: &mut Next<'_>) -> Result<(), AllocError> {
+    for index in 0..PARTS {
+        for choice in parts.list[index].choices {
+            let Some(rule) = choice else {
+                continue;
+            };
+            if let Some(candidate) = candidate_for(parts, from, index, rule) {
+                candidate.take_block(parts, from, next.one)?;
+                candidate.take_chain(parts, from, next.one)?;
+                candidate.take_two(parts, from, next.two)?;
+            }
+        }
+    }
+    Ok(())
+}

@@ -1,0 +1,101 @@
+//! The bytes of a plan, in parts of which one thing is asked.
+
+use crate::choices::Rules;
+use crate::plan_row::{Demand, PlanRow};
+use crate::rows::{row_at, unnamed_to};
+use crate::security::Security;
+use pmp_core::{ADDRESS_LIMIT, ByteRange, Hart, MAX_ADDRESS_BITS};
+
+/// The most parts that are searched: sixty-four entries give no more ranges of bytes.
+pub const PARTS: usize = 129;
+
+/// Bytes side by side of which one thing is asked.
+#[derive(Clone, Copy)]
+pub struct Part {
+    pub bytes: ByteRange,
+    pub demand: Demand,
+    /// The rules that give it.
+    pub choices: [Option<u8>; 2],
+    /// Whether entries have to own the bytes: without one they have other rights, or aren't held.
+    pub is_needed: bool,
+}
+
+/// What entries are looked for.
+#[derive(Clone, Copy)]
+pub struct Parts {
+    pub hart: Hart,
+    pub rules: Rules,
+    pub list: [Part; PARTS],
+    pub count: usize,
+}
+
+impl Parts {
+    /// The parts of a plan, or none where there are too many.
+    pub fn of(hart: Hart, security: Security, rows: &[PlanRow<'_>]) -> Option<Parts> {
+        let rules = Rules::of(hart, security);
+        let rest = Demand {
+            rights: security.rest(),
+            is_locked: false,
+        };
+        let mut parts = Parts {
+            hart,
+            rules,
+            list: [Part {
+                bytes: ByteRange::EMPTY,
+                demand: rest,
+                choices: [None; 2],
+                is_needed: false,
+            }; PARTS],
+            count: 0,
+        };
+        let mut at = 0;
+        while at < ADDRESS_LIMIT {
+            let (demand, last) = match row_at(rows, at) {
+                Some(row) => (row.demand, row.last),
+                None => (rest, unnamed_to(rows, at)),
+            };
+            let end = last + 1;
+            parts.push(ByteRange { start: at, end }, demand, demand != rest)?;
+            at = end;
+        }
+        Some(parts)
+    }
+
+    fn push(&mut self, bytes: ByteRange, demand: Demand, is_needed: bool) -> Option<()> {
+        let choices = self.rules.choices(demand);
+        let part = self.list.get_mut(self.count)?;
+        *part = Part {
+            bytes,
+            demand,
+            choices,
+            is_needed,
+        };
+        self.count += 1;
+        Some(())
+    }
+
+    /// The end of the bytes that entries of the hart can match.
+    pub fn end(&self) -> u64 {
+        self.hart.word_addresses().saturating_mul(4)
+    }
+
+    /// The largest naturally aligned block round the byte that lies in the room, from a grain on.
+    pub fn block_at(&self, byte: u64, room: ByteRange) -> Option<ByteRange> {
+        let mut found = None;
+        for bits in self.hart.grain() + 2..self.hart.address_bits().min(MAX_ADDRESS_BITS) + 1 {
+            let start = byte >> bits << bits;
+            let end = start.saturating_add(1 << bits);
+            if start < room.start || end > room.end {
+                return found;
+            }
+            found = Some(ByteRange { start, end });
+        }
+        found
+    }
+
+    /// The highest address up to this one at which a top of range ends.
+    pub fn top_at(&self, end: u64) -> u64 {
+        let last = self.hart.word_addresses().saturating_sub(1);
+        self.hart.tor_address(last.min(end / 4)).saturating_mul(4)
+    }
+}

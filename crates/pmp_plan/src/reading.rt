@@ -1,0 +1,67 @@
+//! The rows of a plan that a text gives.
+
+ghost use Rattle.std.specs.Prelude.{◌≡◌, ◌⊎◌, ◌++◌, ◌∷◌, [], Err, IfErr, IfOk, Ok, OnOk, map};
+ghost use Rattle.pmp_text.specs.Lines.{lines};
+ghost use Rattle.pmp_text.specs.Outcomes.{no_memory_for_rows};
+ghost use Rattle.pmp_plan.specs.PlanTexts.{no_header, plan_said, rows_from};
+ghost use Rattle.pmp_plan.specs.KeptRows.{AddsRow, IsFaultOf, said};
+
+use crate::plan_row::PlanRow;
+use pmp_text::{Refusal, TraceFault, split_first_line};
+use std::alloc::{AllocError, Global};
+
+fn no_header() -> TraceFault
+    ensures { result ≡ no_header }
+{
+    Refusal::BadHeader.whole().at_row(0)
+}
+
+/// The rows that a text gives: the line `first,last,m,su,locked,name`, and a line with these six fields for each, as
+/// `0x80000000,0x8001ffff,r-x,---,yes,firmware`.
+///
+/// `BadHeader` where the first line is another; `BadRow` where a row isn't one, and which of its fields isn't, if it has
+/// six: a number, a number that isn't less, rights as `rw-`, rights, `yes` or `no`, or a name; `PastEnd` where its last
+/// byte is none; `Memory`, at row 0.
+pub fn read_plan<'a>(alloc: Global, text: &'a [u8]) -> Result<Vec<PlanRow<'a>>, TraceFault>
+    ensures ok { IfOk result (λ rows. plan_said text.now ≡ Ok (map said rows.items)) }
+    ensures err { IfErr result (λ fault. (fault ≡ no_memory_for_rows) ⊎ (plan_said text.now ≡ Err fault)) }
+{
+    match split_first_line(text) {
+        Some((header, rows)) if header == b"first,last,m,su,locked,name".as_slice() => read_rows(
+            alloc, rows,
+        ),
+        _ => Err(no_header()),
+    }
+}
+
+fn read_rows<'a>(alloc: Global, text: &'a [u8]) -> Result<Vec<PlanRow<'a>>, TraceFault>
+    ensures ok { IfOk result (λ rows. rows_from 1 (lines text.now) ≡ Ok (map said rows.items)) }
+    ensures err { IfErr result (λ fault. (fault ≡ no_memory_for_rows) ⊎ (rows_from 1 (lines text.now) ≡ Err fault)) }
+{
+    let mut rows = Vec::new(alloc);
+    let mut number = 1u64;
+    let mut rest = text;
+    while let Some((line, behind)) = split_first_line(rest) {
+        add(&mut rows, line, number)?;
+        number = number.saturating_add(1);
+        rest = behind;
+    }
+    Ok(rows)
+}
+
+fn add<'a>(rows: &mut Vec<PlanRow<'a>>, line: &'a [u8], number: u64) -> Result<(), TraceFault>
+    ensures ok { OnOk result (AddsRow line.now rows.old.items rows.new.items) }
+    ensures err { IfErr result (λ fault. (fault ≡ no_memory_for_rows) ⊎ IsFaultOf line.now number fault) }
+{
+    match PlanRow::read(line) {
+        Ok(row) => push(rows, row)?,
+        Err(flaw) => return Err(flaw.at_row(number)),
+    }
+    Ok(())
+}
+
+fn push<'a>(rows: &mut Vec<PlanRow<'a>>, row: PlanRow<'a>) -> Result<(), AllocError>
+    ensures { OnOk result (rows.new.items ≡ rows.old.items ++ row.entry ∷ []) }
+{
+    Ok(rows.push(row)?)
+}

@@ -1,0 +1,78 @@
+//! What is wrong with the rows of a plan themselves.
+
+ghost use Rattle.std.specs.Prelude.{◌≡◌, IfErr, IfSome, IsTrue, MatchOption, OnOk, false};
+ghost use Rattle.std.specs.List.{AllPairs};
+ghost use Rattle.pmp_plan.specs.PlanFaults.{AreApart, AreOverlapping, HaveCommonByte, IsFlawOf, Refuses, is_inside};
+
+use crate::fault::PlanFault;
+use crate::plan_row::PlanRow;
+use pmp_core::Hart;
+
+/// Whether two rows have no byte in common.
+fn are_apart(one: &PlanRow<'_>, other: &PlanRow<'_>) -> bool
+    ensures yes { IsTrue result → AreApart one.now other.now }
+    ensures no { result ≡ false → HaveCommonByte one.now other.now }
+{
+    one.last < other.first || other.last < one.first
+}
+
+/// The first two rows that have a byte in common.
+fn overlap(rows: &[PlanRow<'_>]) -> Option<(usize, usize)>
+    ensures { MatchOption result (AllPairs AreApart rows.now) (λ pair. AreOverlapping rows.now pair.0 pair.1) }
+{
+    for row in 0..rows.len() {
+        for other in row + 1..rows.len() {
+            if !are_apart(&rows[row], &rows[other]) {
+                return Some((row, other));
+            }
+        }
+    }
+    None
+}
+
+/// Whether a byte address is inside a grain, and not where one begins.
+fn is_inside(hart: Hart, byte: u64) -> bool
+    ensures { result ≡ is_inside hart byte }
+{
+    let bits = hart.grain() + 2;
+    byte >> bits << bits != byte
+}
+
+/// What is wrong with a row by itself.
+fn flaw_of(hart: Hart, index: usize, row: &PlanRow<'_>) -> Option<PlanFault>
+    ensures { IfSome result (IsFlawOf hart index row.now) }
+{
+    if is_inside(hart, row.first) {
+        return Some(PlanFault::TooFine {
+            row: index,
+            field: 0,
+        });
+    }
+    if is_inside(hart, row.last + 1) {
+        return Some(PlanFault::TooFine {
+            row: index,
+            field: 1,
+        });
+    }
+    if row.last / 4 >= hart.word_addresses() {
+        return Some(PlanFault::PastEnd { row: index });
+    }
+    None
+}
+
+/// Whether the rows are those of a plan for the hart: no two have a byte in common, and each begins and ends where grains
+/// do, below the end of its addresses.
+pub fn check_rows(hart: Hart, rows: &[PlanRow<'_>]) -> Result<(), PlanFault>
+    ensures ok { OnOk result (AllPairs AreApart rows.now) }
+    ensures err { IfErr result (Refuses hart rows.now) }
+{
+    if let Some((row, other)) = overlap(rows) {
+        return Err(PlanFault::Overlap { row, other });
+    }
+    for (index, row) in rows.iter().enumerate() {
+        if let Some(fault) = flaw_of(hart, index, row) {
+            return Err(fault);
+        }
+    }
+    Ok(())
+}

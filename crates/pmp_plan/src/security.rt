@@ -1,0 +1,46 @@
+//! The bits of `mseccfg` that a plan asks for.
+
+ghost use Rattle.std.specs.Prelude.{◌≡◌};
+ghost use Rattle.pmp_plan.specs.Plans.{rest_rights, security_value};
+
+use pmp_core::Perms;
+use pmp_map::ModeRights;
+
+/// The bits of `mseccfg` (Smepmp) that a plan is for.
+#[derive(Clone, Copy, Debug, Default, PartialEq, Eq)]
+pub struct Security {
+    pub mml: bool,
+    pub mmwp: bool,
+    pub rlb: bool,
+}
+
+impl Security {
+    /// RLB alone.
+    pub const BYPASS: Security = Security {
+        mml: false,
+        mmwp: false,
+        rlb: true,
+    };
+
+    /// The register's value.
+    pub fn value(self) -> u64
+        ensures { result ≡ security_value self }
+    {
+        u64::from(self.mml) + 2 * u64::from(self.mmwp) + 4 * u64::from(self.rlb)
+    }
+
+    /// What the modes may do with a byte that no row names: what no entry gives.
+    pub fn rest(self) -> ModeRights
+        ensures { result ≡ rest_rights self }
+    {
+        let machine = match (self.mml, self.mmwp) {
+            (_, true) => Perms::NONE,
+            (true, false) => Perms::RW,
+            (false, false) => Perms::RWX,
+        };
+        ModeRights {
+            machine,
+            others: Perms::NONE,
+        }
+    }
+}

@@ -1,0 +1,154 @@
+//! How far entries have come to what a plan asks.
+
+use crate::cost::cost;
+use crate::parts::{PARTS, Parts};
+use pmp_core::ByteRange;
+
+/// The most entries that are searched for: more than a hart has, to tell how many a plan takes.
+pub const FOUND: usize = 96;
+
+/// An entry: its configuration byte, and its word address.
+#[derive(Clone, Copy, PartialEq, Eq)]
+pub struct Chosen {
+    pub configuration: u8,
+    pub address: u64,
+}
+
+/// The first entries, and what they leave to those behind them.
+#[derive(Clone, Copy)]
+pub struct State {
+    /// What no entry owns yet, of each part.
+    pub left: [ByteRange; PARTS],
+    /// Where the range of a TOR entry behind the last one can begin to be of use.
+    pub chain: Option<u64>,
+    /// Whether all entries are frozen.
+    pub is_frozen: bool,
+    /// How many entries what is left may take, roughly.
+    pub cost: usize,
+    pub entries: [Chosen; FOUND],
+    pub count: usize,
+}
+
+impl State {
+    /// No entries.
+    pub fn beginning(parts: &Parts) -> State {
+        let mut left = [ByteRange::EMPTY; PARTS];
+        for index in 0..PARTS {
+            left[index] = parts.list[index].bytes;
+        }
+        let mut state = State {
+            left,
+            chain: Some(0),
+            is_frozen: true,
+            cost: 0,
+            entries: [Chosen {
+                configuration: 0,
+                address: 0,
+            }; FOUND],
+            count: 0,
+        };
+        state.cost = cost(parts, &state.left, state.chain);
+        state
+    }
+
+    /// The entries, in their order.
+    pub fn entries(&self) -> &[Chosen] {
+        &self.entries[..self.count.min(FOUND)]
+    }
+
+    /// Whether the same is left, and the same can come next.
+    pub fn is_same(&self, other: &State) -> bool {
+        self.left == other.left && self.chain == other.chain && self.is_frozen == other.is_frozen
+    }
+
+    /// What is left of a part, if anything is.
+    pub fn left_of(&self, index: usize) -> Option<ByteRange> {
+        match self.left.get(index) {
+            Some(left) if left.start < left.end => Some(*left),
+            _ => None,
+        }
+    }
+
+    /// The bytes round what is left of a part in which an entry for it finds nothing that asks for another.
+    pub fn room(&self, parts: &Parts, index: usize, is_frozen: bool) -> ByteRange {
+        let mut room = ByteRange {
+            start: 0,
+            end: parts.end(),
+        };
+        let (Some(here), Some(part)) = (self.left_of(index), parts.list.get(index)) else {
+            return ByteRange::EMPTY;
+        };
+        for other in 0..PARTS {
+            let (Some(left), Some(next)) = (self.left_of(other), parts.list.get(other)) else {
+                continue;
+            };
+            let is_one = next.demand.rights == part.demand.rights;
+            if is_one && (is_frozen || !next.demand.is_locked) {
+                continue;
+            }
+            if left.end <= here.start {
+                room.start = room.start.max(left.end);
+            } else {
+                room.end = room.end.min(left.start);
+            }
+        }
+        room
+    }
+
+    /// Behind one entry more, which owns what of these bytes is left.
+    pub fn behind(&self, parts: &Parts, entry: Chosen, bytes: ByteRange, is_frozen: bool) -> State {
+        let mut next = *self;
+        next.push(entry);
+        for index in 0..PARTS {
+            next.left[index] = without(self.left[index], bytes);
+        }
+        next.is_frozen = is_frozen;
+        next.chain = next.chain_from(parts.hart.tor_address(entry.address).saturating_mul(4));
+        next.cost = cost(parts, &next.left, next.chain);
+        next
+    }
+
+    fn push(&mut self, entry: Chosen) {
+        if let Some(place) = self.entries.get_mut(self.count) {
+            *place = entry;
+        }
+        self.count = self.count.saturating_add(1);
+    }
+
+    /// Where the first bytes begin that a range from this byte on can have.
+    fn chain_from(&self, byte: u64) -> Option<u64> {
+        let mut found = None;
+        for index in 0..PARTS {
+            match self.left_of(index) {
+                Some(left) if left.start >= byte => {
+                    found = Some(match found {
+                        Some(start) if start < left.start => start,
+                        _ => left.start,
+                    });
+                }
+                Some(left) if left.end > byte => return None,
+                _ => {}
+            }
+        }
+        found
+    }
+}
+
+/// What the bytes leave of a range: none of them at its beginning or its end.
+fn without(left: ByteRange, bytes: ByteRange) -> ByteRange {
+    if left.start >= left.end || bytes.end <= left.start || left.end <= bytes.start {
+        left
+    } else if bytes.start <= left.start {
+        ByteRange {
+            start: bytes.end.min(left.end),
+            end: left.end,
+        }
+    } else if bytes.end >= left.end {
+        ByteRange {
+            start: left.start,
+            end: bytes.start,
+        }
+    } else {
+        left
+    }
+}

@@ -1,0 +1,93 @@
+//! The writes that leave entries behind a reset.
+
+use crate::security::Security;
+use crate::state::Chosen;
+use arrayvec::ArrayVec;
+use pmp_core::{Csr, Event, Hart};
+
+/// The most writes: `mseccfg` three times, each address register, and each configuration register twice.
+pub const WRITES: usize = 128;
+
+/// How many numbers configuration registers have.
+const CONFIGURATIONS: u8 = 16;
+
+/// Writes in their order.
+#[derive(Drop)]
+struct Writes {
+    list: ArrayVec<Event, WRITES>,
+}
+
+/// Whether a configuration is stored only where MML is 1: W without R.
+fn needs_lockdown(entry: &Chosen) -> bool {
+    entry.configuration % 4 == 2
+}
+
+/// The bytes of so many entries from this one on, as a configuration register has them.
+fn word(entries: &[Chosen], first: usize, count: usize, is_locked_down: bool) -> u64 {
+    let mut bytes = [0; 8];
+    for place in 0..bytes.len() {
+        if let Some(entry) = entries.get(first.saturating_add(place)) {
+            if place < count && (is_locked_down || !needs_lockdown(entry)) {
+                bytes[place] = entry.configuration;
+            }
+        }
+    }
+    u64::from_le_bytes(bytes)
+}
+
+impl Writes {
+    fn push(&mut self, csr: Csr, value: u64) {
+        let _full = self.list.try_push(Event::Write(csr, value));
+    }
+
+    fn push_addresses(&mut self, entries: &[Chosen]) {
+        for (index, entry) in entries.iter().enumerate() {
+            if index < 64 {
+                self.push(Csr::Addr(index as u8), entry.address);
+            }
+        }
+    }
+
+    fn push_configurations(&mut self, hart: Hart, entries: &[Chosen], is_locked_down: bool) {
+        for register in 0..CONFIGURATIONS {
+            let first = 4 * usize::from(register);
+            let count = hart.bytes_in(register);
+            if count > 0 && first < entries.len() {
+                self.push(
+                    Csr::Cfg(register),
+                    word(entries, first, count, is_locked_down),
+                );
+            }
+        }
+    }
+}
+
+/// The writes that leave these entries and these bits of `mseccfg` on a hart that was reset.
+///
+/// RLB is set first, where MML or RLB is asked for: entries may then be locked, and be executable, in any order, and
+/// machine mode goes on by them once MML is set. Addresses come before configurations, so that no entry matches bytes on
+/// the way that it doesn't match in the end.
+pub fn writes_of(hart: Hart, security: Security, entries: &[Chosen]) -> ArrayVec<Event, WRITES> {
+    let mut writes = Writes {
+        list: ArrayVec::new(),
+    };
+    let bypassed = Security {
+        rlb: true,
+        ..security
+    };
+    if security.mml || security.rlb {
+        writes.push(Csr::Mseccfg, Security::BYPASS.value());
+    }
+    writes.push_addresses(entries);
+    writes.push_configurations(hart, entries, false);
+    if security.mml {
+        writes.push(Csr::Mseccfg, bypassed.value());
+        if entries.iter().any(needs_lockdown) {
+            writes.push_configurations(hart, entries, true);
+        }
+    }
+    if security != Security::default() {
+        writes.push(Csr::Mseccfg, security.value());
+    }
+    writes.list
+}

@@ -1,1 +1,0 @@
-use Rattle.pmp_tool.proofs.hart_comparison.answer_folder.Goals as goal
