@@ -12,7 +12,7 @@ import subprocess
 import sys
 import tempfile
 
-RIGHTS = {bits: "".join(letter if bits >> place & 1 else "-" for place, letter in enumerate("rwx")) for bits in range(8)}
+RIGHTS = {it: "".join(letter if it >> place & 1 else "-" for place, letter in enumerate("rwx")) for it in range(8)}
 # What a rule gives M, and S and U, by its R, W and X (Smepmp, the truth table), where MML is 1: unlocked, and locked.
 UNLOCKED = {0: (0, 0), 4: (0, 4), 2: (3, 1), 6: (3, 3), 1: (0, 1), 5: (0, 5), 3: (0, 3), 7: (0, 7)}
 LOCKED = {0: (0, 0), 4: (4, 0), 2: (4, 4), 6: (5, 4), 1: (1, 0), 5: (5, 0), 3: (3, 0), 7: (1, 1)}
@@ -229,8 +229,8 @@ def answered(program, plan, folder):
     done = subprocess.run([*program, "plan", path, *plan.words()], capture_output=True, text=True, check=False)
     if done.returncode == 0:
         return done.stdout, None
-    words = done.stderr.split()
-    return None, REFUSED.get(next((it for it in words if it in REFUSED), ""), f"status {done.returncode}: {done.stderr}")
+    number = next((it for it in done.stderr.split() if it in REFUSED), None)
+    return None, REFUSED.get(number, f"status {done.returncode}: {done.stderr}")
 
 
 def judged(program, plan, folder):

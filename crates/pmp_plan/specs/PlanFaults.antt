@@ -1,5 +1,6 @@
 -- Why a plan is refused.
-use Rattle.std.specs.Prelude.{◌≡◌, ◌⊎◌, ℕ, ◌+◌, ◌*◌, ◌/◌, ◌^◌, ◌<◌, ◌≤◌, ◌==◌, Bool, true, false, not, List, Some, slice_get}
+use Rattle.std.specs.Prelude.{◌≡◌, ◌⊎◌, ℕ, ◌+◌, ◌*◌, ◌/◌, ◌^◌, ◌<◌, ◌≤◌, ◌==◌, Bool, true, false, not, List, Some}
+use Rattle.std.specs.Prelude.{slice_get}
 use Rattle.pmp_core.specs.declared.hart.Profile.{Profile}
 use Rattle.pmp_core.specs.Hart.{word_addresses}
 use Rattle.pmp_text.specs.declared.refusal.Refusal.{Refusal}
@@ -52,8 +53,8 @@ IsFlawOf hart index row (fault.TooFine number field) = (number ≡ index) × IsI
 IsFlawOf hart index row (fault.PastEnd number) = (number ≡ index) × (word_addresses hart ≤ row.last / 4)
 IsFlawOf hart index row _ = ⊥
 
--- a fault of the rows is there; the hart has no mseccfg, or fewer entries than were found. The others say nothing of what
--- there is
+-- a fault of the rows is there; the hart has no mseccfg, or fewer entries than were found. The others say nothing of
+-- what there is
 abbrev pub Refuses : Profile → List PlanRow → PlanFault → Type 0
 Refuses hart rows (fault.Overlap row other) = AreOverlapping rows row other
 Refuses hart rows (fault.TooFine number field) =

@@ -43,8 +43,8 @@ abbrev pub security_value : Security → ℕ
 security_value security =
     mseccfg_value (record { mml = security.mml; mmwp = security.mmwp; rlb = security.rlb })
 
--- the hart, and the value of mseccfg, are those asked for; each row is met; and a byte that no row has is left as no entry
--- leaves it
+-- the hart, and the value of mseccfg, are those asked for; each row is met; and a byte that no row has is left as no
+-- entry leaves it
 pub record MeetsPlan (hart : Profile) (security : Security) (rows : List PlanRow) (file : RegisterFile) : Type 0 where
   pub hart_is : file.profile ≡ hart
   pub secured : register_value file Mseccfg ≡ security_value security

@@ -11,8 +11,7 @@ const RULES: usize = 16;
 /// L of a configuration byte.
 pub const LOCK: u8 = 128;
 
-/// The rules of a configuration byte, of which the last has L, R, W and X: what each gives the modes, or none where it is
-/// reserved.
+/// The rules that L, R, W and X of a configuration byte make: what each gives the modes, or none where it is reserved.
 #[derive(Clone, Copy)]
 pub struct Rules {
     rights: [Option<ModeRights>; RULES],

@@ -75,8 +75,9 @@ fn meets_rows(registers: &Registers<'_>, rows: &[PlanRow<'_>]) -> bool
     true
 }
 
-/// Whether the register file meets the plan: it is of the hart and has the `mseccfg` that are asked for, each byte of each
-/// row has exactly the row's rights, and is held where the row is locked, and no entry opens or closes any other byte.
+/// Whether the register file meets the plan: it is of the hart and has the `mseccfg` that are asked for, each byte of
+/// each row has exactly the row's rights, and is held where the row is locked, and every other byte is left as no entry
+/// leaves it.
 pub fn meets(file: &RegFile, hart: Hart, security: Security, rows: &[PlanRow<'_>]) -> bool
     ensures yes { IsTrue result → MeetsPlan hart security rows.now file.now }
     ensures no { MeetsPlan hart security rows.now file.now → IsTrue result }

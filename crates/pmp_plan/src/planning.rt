@@ -68,13 +68,13 @@ fn found(
     }
 }
 
-/// Writes for a hart that was reset, which leave registers that give each byte of each row exactly the row's rights, hold
-/// it where the row is locked, and leave every other byte as no entry leaves it.
+/// Writes for a hart that was reset, which leave registers that give each byte of each row exactly the row's rights,
+/// hold it where the row is locked, and leave every other byte as no entry leaves it.
 ///
 /// What is written is run on a unit of the hart, and judged, before it is answered, so that the search can only refuse.
-/// The first of these is answered: two rows that have a byte in common; a row that begins or ends inside a grain, or has
-/// bytes above the hart's addresses; a bit of `mseccfg` that the hart doesn't keep; a hart without entries; a row whose
-/// rights no entry gives; more entries than there are; `Stopped`.
+/// The first of these is answered: two rows that have a byte in common; a row that begins or ends inside a grain, or
+/// has bytes above the hart's addresses; a bit of `mseccfg` that the hart doesn't keep; a hart without entries; a row
+/// whose rights no entry gives; more entries than there are; `Stopped`.
 pub fn plan(
     alloc: Global,
     hart: Hart,

@@ -19,9 +19,9 @@ fn no_header() -> TraceFault
 /// The rows that a text gives: the line `first,last,m,su,locked,name`, and a line with these six fields for each, as
 /// `0x80000000,0x8001ffff,r-x,---,yes,firmware`.
 ///
-/// `BadHeader` where the first line is another; `BadRow` where a row isn't one, and which of its fields isn't, if it has
-/// six: a number, a number that isn't less, rights as `rw-`, rights, `yes` or `no`, or a name; `PastEnd` where its last
-/// byte is none; `Memory`, at row 0.
+/// `BadHeader` where the first line is another; `BadRow` where a row isn't one, and which of its fields isn't, if it
+/// has six: a number, a number that isn't less, rights as `rw-`, rights, `yes` or `no`, or a name; `PastEnd` where its
+/// last byte is none; `Memory`, at row 0.
 pub fn read_plan<'a>(alloc: Global, text: &'a [u8]) -> Result<Vec<PlanRow<'a>>, TraceFault>
     ensures ok { IfOk result (λ rows. plan_said text.now ≡ Ok (map said rows.items)) }
     ensures err { IfErr result (λ fault. (fault ≡ no_memory_for_rows) ⊎ (plan_said text.now ≡ Err fault)) }

@@ -60,8 +60,8 @@ fn flaw_of(hart: Hart, index: usize, row: &PlanRow<'_>) -> Option<PlanFault>
     None
 }
 
-/// Whether the rows are those of a plan for the hart: no two have a byte in common, and each begins and ends where grains
-/// do, below the end of its addresses.
+/// Whether the rows are those of a plan for the hart: no two have a byte in common, and each begins and ends where
+/// grains do, below the end of its addresses.
 pub fn check_rows(hart: Hart, rows: &[PlanRow<'_>]) -> Result<(), PlanFault>
     ensures ok { OnOk result (AllPairs AreApart rows.now) }
     ensures err { IfErr result (Refuses hart rows.now) }

@@ -65,8 +65,8 @@ impl Writes {
 /// The writes that leave these entries and these bits of `mseccfg` on a hart that was reset.
 ///
 /// RLB is set first, where MML or RLB is asked for: entries may then be locked, and be executable, in any order, and
-/// machine mode goes on by them once MML is set. Addresses come before configurations, so that no entry matches bytes on
-/// the way that it doesn't match in the end.
+/// machine mode goes on by them once MML is set. Addresses come before configurations, so that no entry matches bytes
+/// on the way that it doesn't match in the end.
 pub fn writes_of(hart: Hart, security: Security, entries: &[Chosen]) -> ArrayVec<Event, WRITES> {
     let mut writes = Writes {
         list: ArrayVec::new(),

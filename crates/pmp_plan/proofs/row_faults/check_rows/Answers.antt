@@ -3,7 +3,8 @@ use Rattle.std.proofs.lemmas.Option.{slice_get_read}
 use Rattle.std.specs.Prelude.{slice_get}
 use Rattle.pmp_core.specs.declared.hart.Profile.{Profile}
 use Rattle.pmp_plan.specs.declared.fault.PlanFault.{PlanFault}
-use Rattle.pmp_plan.specs.declared.fault.PlanFault.TheVariants.{Overlap, TooFine, PastEnd, BadPair, NotHeld, FewEntries, Stopped, Memory}
+use Rattle.pmp_plan.specs.declared.fault.PlanFault.TheVariants.{Overlap, TooFine, PastEnd, BadPair, NotHeld}
+use Rattle.pmp_plan.specs.declared.fault.PlanFault.TheVariants.{FewEntries, Stopped, Memory}
 use Rattle.pmp_plan.specs.declared.plan_row.PlanRow.{PlanRow}
 use Rattle.pmp_plan.specs.PlanFaults.{IsFlawOf, Refuses}
 use Rattle.pmp_plan.proofs.row_faults.check_rows.Goals as goal

@@ -8,10 +8,12 @@ returns-then-not-are_apart c =
     let one = c.index-rows-row in
     let other = c.index-rows-other in
     let (byte, here, there) = c.if-not-are_apart.ensures.no refl in
-    let order = c.loop-other.auto.other in record {
+    let order = c.loop-other.auto.other in
+    let first = slice_get_read rows (length rows) _ one.result refl (omega (arith, c.loop-row-test.true)) one.is in
+    let second =
+    slice_get_read rows (length rows) _ other.result refl (omega (arith, c.loop-other-test.true)) other.is in record {
       order = omega (arith, order);
       byte = byte;
-      one = (one.result, slice_get_read rows (length rows) _ one.result refl (omega (arith, c.loop-row-test.true)) one.is, here);
-      second =
-          (other.result, slice_get_read rows (length rows) _ other.result refl (omega (arith, c.loop-other-test.true)) other.is, there);
+      one = (one.result, first, here);
+      second = (other.result, second, there);
     }
