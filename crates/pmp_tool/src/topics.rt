@@ -193,6 +193,8 @@ and of one number by entries, by addresses or by events.
 how an access is decided, since when, and what the entry that decides is.
 
   1,fault,7,rule,0,napot,00000080000000,00000080000fff,1100,plain,frozen,held,3,2,
+  0,fault,7,none,
+  1,fault,7,rule,0
 
 `pmp diff` writes `FIRST,LAST,MOLD,SUOLD,MNEW,SUNEW,CHANGE` for the longest
 ranges of bytes where the register files of two scripts differ in what they let
