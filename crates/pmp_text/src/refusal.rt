@@ -294,8 +294,7 @@ impl Refusal {
             Refusal::BadPair =>
                 "without MML give M rwx, or in a locked row what S and U have; with MML see the table of Smepmp",
             Refusal::TooFine => "move the row's ends to multiples of the grain, in bytes",
-            Refusal::TooFewEntries =>
-                "join rows of the same rights, or move ends to powers of two",
+            Refusal::TooFewEntries => "join rows of the same rights, or move ends to powers of two",
             Refusal::Stopped => "make the plan smaller: it may have entries all the same",
         }
     }
