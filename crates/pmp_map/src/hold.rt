@@ -5,7 +5,8 @@ ghost use Rattle.pmp_map.specs.OpenBytes.{holds};
 
 use pmp_core::Registers;
 
-/// Whether the owner of bytes is held: it is frozen with all entries before it, or where there is none, all entries are.
+/// Whether the owner of bytes is held: it is frozen with all entries before it, or where there is none, all entries
+/// are.
 pub fn is_held(registers: &Registers<'_>, owner: Option<u8>) -> bool
     requires { IfSome owner (λ entry. entry < length registers.now.entries) }
     ensures { result ≡ holds registers.now owner }
