@@ -15,6 +15,8 @@ const CONFIGURATIONS: u8 = 16;
 #[derive(Drop)]
 struct Writes {
     list: ArrayVec<Event, WRITES>,
+    /// What `mseccfg` has behind them.
+    security: Security,
 }
 
 /// Whether a configuration is stored only where MML is 1: W without R.
@@ -38,6 +40,13 @@ fn word(entries: &[Chosen], first: usize, count: usize, is_locked_down: bool) ->
 impl Writes {
     fn push(&mut self, csr: Csr, value: u64) {
         let _full = self.list.try_push(Event::Write(csr, value));
+    }
+
+    fn push_security(&mut self, security: Security) {
+        if security != self.security {
+            self.push(Csr::Mseccfg, security.value());
+            self.security = security;
+        }
     }
 
     fn push_addresses(&mut self, entries: &[Chosen]) {
@@ -70,24 +79,22 @@ impl Writes {
 pub fn writes_of(hart: Hart, security: Security, entries: &[Chosen]) -> ArrayVec<Event, WRITES> {
     let mut writes = Writes {
         list: ArrayVec::new(),
-    };
-    let bypassed = Security {
-        rlb: true,
-        ..security
+        security: Security::default(),
     };
     if security.mml || security.rlb {
-        writes.push(Csr::Mseccfg, Security::BYPASS.value());
+        writes.push_security(Security::BYPASS);
     }
     writes.push_addresses(entries);
     writes.push_configurations(hart, entries, false);
     if security.mml {
-        writes.push(Csr::Mseccfg, bypassed.value());
+        writes.push_security(Security {
+            rlb: true,
+            ..security
+        });
         if entries.iter().any(needs_lockdown) {
             writes.push_configurations(hart, entries, true);
         }
     }
-    if security != Security::default() {
-        writes.push(Csr::Mseccfg, security.value());
-    }
+    writes.push_security(security);
     writes.list
 }
