@@ -26,6 +26,8 @@ class Source:
     WORDS = r"(?:(?:abbrev|pub|unfoldable|record|enum) )*([^\s:({]+)"
     BLOCK = re.compile(r"^(?:unfolding .*\n)*(?!use |pub mod |mod |unfolding |--)" + WORDS, re.M)
     INNER = re.compile(rf"^ +{WORDS} : ", re.M)
+    IMPORT = re.compile(r"\bRattle\.(specs|proofs)\.([\w.]+)\.{([^}]*)}")
+    PATH = re.compile(r"\bcrate::(specs|proofs)::([\w:]+)::(\w+)")
     RECORD = re.compile(r"^( +)(?:pub )?record (\S+) .*\n(?:\1 +.*\n)*", re.M)
 
     def __init__(self, folder):
@@ -38,10 +40,12 @@ class Source:
         sources = [it for it in self.texts if it.startswith("src/")]
         self.homes = {name: module_of(it) for it in sources for name in self.TYPE.findall(self.texts[it])}
         self.places = {name: place for it in sources for name, place in self.functions_of(it)}
-        self.heads = {name: words_of(self.texts[file][at:body]) for name, (file, at, body, *_) in self.places.items()}
-        self.wholes = {name: words_of(self.text_of(name)) for name in self.places}
+        self.imported = {it: self.imports_of(it) for it in self.texts}
+        self.heads = {it: self.spoken_in(file, self.texts[file][at:body])
+                      for it, (file, at, body, *_) in self.places.items()}
+        self.wholes = {it: self.spoken_in(place[0], self.text_of(it)) for it, place in self.places.items()}
         self.blocks = [it for file in self.texts if file.endswith(".antt") for it in self.blocks_of(file)]
-        self.types = set().union(*(words_of(self.beside_functions(it)) for it in sources))
+        self.types = set().union(*(self.spoken_in(it, self.beside_functions(it)) for it in sources))
 
     def functions_of(self, file):
         """The path below the crate of each function of the file, as rt check prints it, with where it stands: its file,
@@ -119,6 +123,32 @@ class Source:
             text = text.replace(old, new)
         return text
 
+    def restated(self, edit):
+        """The text of the edit's function whose contract speaks of a definition that the edit changes, with this under
+        another name, and what else has to change: the definition's file, with such copies at its end, and the import.
+        None where the edit changes something else too."""
+        file, start, _, end, _ = self.places[edit.place]
+        home, last = edit.changes[0][0], f"_{edit.name}"
+        if not home.startswith("specs/") or any(it[0] != home for it in edit.changes):
+            return None
+        names, parts = set(), list(self.spans_of(home))
+        for said, spoken, at, to in parts * 2:
+            if names & spoken or any(at <= it[1] < to for it in edit.changes):
+                names |= said
+        copies = "".join(
+            edited(self.texts[home], at, to, [it for it in edit.changes if at <= it[1] < to])
+            for said, _, at, to in parts if said <= names)
+        stated = names & self.heads[edit.place]
+        if not stated:
+            return None
+        words = re.compile(rf"(?<![\w.])(?:{'|'.join(re.escape(it) for _, it in names)})(?!\w)")
+        text, copies = (words.sub(lambda it: it[0] + last, it) for it in (self.text_of(edit.place), copies))
+        path = home.removesuffix(".antt").replace("/", ".")
+        uses = "".join(f"ghost use Rattle.{self.name}.{path}.{{{it}{last}}};\n" for _, it in stated)
+        at = self.texts[file].index("ghost use ")
+        behind = len(self.texts[home])
+        return text, [(home, behind, behind, f"\n{copies}"), (file, at, at, uses)]
+
     def span(self, place, file, old):
         """Where a text of an edit begins and ends, which has to stand once in the function, or else in the file."""
         text, (its, start, _, end, _) = self.texts.get(file, ""), self.places[place]
@@ -130,16 +160,37 @@ class Source:
         return at, at + len(old)
 
     def blocks_of(self, file):
-        """The declarations of a definition's or a proof's file: their names, their words, and in the folder of whose
-        proof they stand."""
-        text = self.texts[file]
+        """The declarations of a definition's or a proof's file: their names, what they speak of, and in the folder of
+        whose proof they stand."""
         function = "::".join(file.split("/")[1:-1])
+        for names, spoken, _, _ in self.spans_of(file):
+            yield names, spoken, function in self.places and function
+
+    def spans_of(self, file):
+        """The names that each declaration of a file has, what it speaks of, and where it begins and ends."""
+        text = self.texts[file]
         starts = [it.start() for it in self.BLOCK.finditer(text)] + [len(text)]
         for at, to in zip(starts, starts[1:]):
             names = {self.BLOCK.match(text, at)[1]}
             if names == {"module"}:
                 names = set(self.INNER.findall(self.RECORD.sub(r"\1\2 : ", text[at:to])))
-            yield names, words_of(self.USE.sub("", text[at:to])), function in self.places and function
+            yield {(file, it) for it in names}, self.spoken_in(file, self.USE.sub("", text[at:to])), at, to
+
+    def spoken_in(self, file, text):
+        """What a text of the file speaks of: each of its words, as a name of the file in which that is declared if the
+        file imports it from there, and else as one of its own; of a path of the crate's, the name at its end."""
+        paths = {(f"{part}/{path.replace('::', '/')}.antt", name) for part, path, name in self.PATH.findall(text)}
+        return paths.union(*(self.imported[file].get(it, {(file, it), it}) for it in words_of(text)))
+
+    def imports_of(self, file):
+        """The names that a file imports from the crate's definitions and proofs, each with where it is declared. One of
+        code that these speak of has no file."""
+        found = {}
+        for part, path, names in self.IMPORT.findall(self.texts[file].replace(f"Rattle.{self.name}.", "Rattle.")):
+            home = f"{part}/{path.replace('.', '/')}.antt"
+            for name, _, other in (it.strip().partition(" as ") for it in names.split(",")):
+                found.setdefault(other or name, set()).add((home, name) if home in self.texts else name)
+        return found
 
     def beside_functions(self, file):
         """The text of a file but for its functions and what it imports: types, and what their contracts say."""
@@ -170,7 +221,7 @@ class Source:
         for file, at, to, new in edit.changes:
             text, function = self.texts[file], self.around(file, at)
             if file.endswith(".antt"):
-                names.add([it[1] for it in self.BLOCK.finditer(text, 0, to)][-1])
+                names.add((file, [it[1] for it in self.BLOCK.finditer(text, 0, to)][-1]))
             elif function and at >= self.places[function][2] and not self.CONTRACT.search(text[at:to] + new):
                 reached.add(function)
             else:
@@ -178,17 +229,17 @@ class Source:
         return self.closed(names, reached)
 
     def closed(self, names, reached):
-        """The functions, with those that say one of the names, or what says one."""
+        """The functions, with those that speak of one of the names, or of what speaks of one."""
         count = -1
         while count != len(names) + len(reached):
             count = len(names) + len(reached)
-            for said, words, function in self.blocks:
-                if names & words and function:
+            for said, spoken, function in self.blocks:
+                if names & spoken and function:
                     reached.add(function)
-                elif names & words:
+                elif names & spoken:
                     names |= said
-            for name, words in self.wholes.items():
-                if names & words:
+            for name, spoken in self.wholes.items():
+                if names & spoken:
                     reached.add(name)
                 if names & self.heads[name]:
                     names.add(name.rpartition("::")[2])
@@ -201,6 +252,13 @@ def searched(proof, goals, goal):
     heads = [] if re.search(r"^use .*\brules\b", proof, re.M) else ["use Rattle.std.proofs.Common.{rules}"]
     heads += [] if " as goal\n" in proof else [f"use Rattle.{goals} as goal"]
     return "\n".join([*heads, proof, f"pub {name} : goal.{name}", f"{goal} = search rules", ""])
+
+
+def edited(text, at, to, changes):
+    """A part of a text with the changes in it."""
+    for _, start, end, new in sorted(changes, reverse=True):
+        text, to = text[:start] + new + text[end:], to + len(new) - (end - start)
+    return text[at:to]
 
 
 def module_of(file):
