@@ -16,8 +16,8 @@ _pmp() {
         picture) words='--explain --after stdin'; files=yes ;;
         writes) words='--explain stdin'; files=yes ;;
         lint) words='--explain --accept --names stdin'; files=yes ;;
-        diff) words='--explain --old-after --new-after --only --names stdin'; files=yes ;;
-        harts) words='--explain --names'; files=yes ;;
+        diff) words='--explain --old-after --new-after --only --locks --names stdin'; files=yes ;;
+        harts) words='--explain --locks --names'; files=yes ;;
         import)
             words='--explain --hart --xlen --entries --grain --address-bits --smepmp --bursts --folder stdin'
             if [ "$COMP_CWORD" = 2 ]; then words='qemu gdb openocd spike dump'; else files=yes; fi

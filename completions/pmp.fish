@@ -40,6 +40,7 @@ complete -c pmp -n '__fish_seen_subcommand_from diff' -l old-after -x \
 complete -c pmp -n '__fish_seen_subcommand_from diff' -l new-after -x \
     -a 'last mml mmwp rlb-clear' -d 'take the first M publications of the new script'
 complete -c pmp -n '__fish_seen_subcommand_from diff' -l only -x -a 'more less' -d 'write the rows that change so'
+complete -c pmp -n '__fish_seen_subcommand_from diff harts' -l locks -d 'write the rows of locks too'
 complete -c pmp -n '__fish_seen_subcommand_from import' -a 'qemu gdb openocd spike dump'
 complete -c pmp -n '__fish_seen_subcommand_from import' -l hart -x -d 'take the registers of hart N'
 complete -c pmp -n '__fish_seen_subcommand_from import' -l xlen -x -a '32 64' -d 'say XLEN'

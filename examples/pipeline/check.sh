@@ -1,8 +1,8 @@
 #!/bin/sh
-# check.sh SCRIPT POLICY MAP: ends with 0 where each row of the policy holds after each write of the script, and the map
-# that the script leaves is the one in MAP; with 1 where that isn't so; with 2 where there is no answer. It takes the
-# pmp on the path, or the one that PMP names.
-[ $# = 3 ] || { echo 'usage: check.sh SCRIPT POLICY MAP' >&2; exit 2; }
+# check.sh SCRIPT POLICY BEFORE: ends with 0 where each row of the policy holds after each write of the script, and it
+# lets the modes do with each byte what the script BEFORE does, and locks it alike; with 1 where that isn't so; with 2
+# where there is no answer. It takes the pmp on the path, or the one that PMP names.
+[ $# = 3 ] || { echo 'usage: check.sh SCRIPT POLICY BEFORE' >&2; exit 2; }
 pmp=${PMP:-pmp}
 work=$(mktemp -d) || exit 2
 trap 'rm -rf "$work"' EXIT
@@ -19,11 +19,10 @@ case $? in
     *) echo "no answer for $1 and $2"; exit 2 ;;
 esac
 
-"$pmp" map "$1" >"$work/map" || { echo "no map of $1"; exit 2; }
-diff "$3" "$work/map"
+"$pmp" diff --locks "$3" "$1"
 case $? in
     0) ;;
-    1) echo "$1 leaves another map than $3"; failed=1 ;;
+    1) echo "$1 leaves other rights or locks than $3"; failed=1 ;;
     *) echo "no answer for $3"; exit 2 ;;
 esac
 exit $failed

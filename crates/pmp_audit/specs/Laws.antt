@@ -10,12 +10,12 @@ use Rattle.pmp_text.specs.declared.lines.since.Since.{Since}
 use Rattle.pmp_text.specs.declared.trace.Row.{Row}
 use Rattle.pmp_text.specs.Contents.{ScriptContents}
 use Rattle.pmp_text.specs.Reports.{AreDecided, file_behind}
-use Rattle.pmp_text.specs.declared.lines.changes.Only.{Only}
 use Rattle.pmp_audit.specs.declared.policy_check.PolicySummary.{PolicySummary}
 use Rattle.pmp_audit.specs.declared.policy_check.steps.Pace.{Pace}
+use Rattle.pmp_audit.specs.declared.script_diff.AskedChanges.{AskedChanges}
 use Rattle.pmp_audit.specs.declared.trace_audit.Summary.{Summary}
 use Rattle.pmp_audit.specs.AskedFile.{SaysOfScript}
-use Rattle.pmp_audit.specs.RightsDiff.{DiffSays}
+use Rattle.pmp_audit.specs.ScriptDiff.{DiffSays}
 use Rattle.pmp_audit.specs.EntryList.{IsEntryList}
 use Rattle.pmp_audit.specs.PolicyCheck.{PolicySays}
 use Rattle.pmp_audit.specs.Since.{IsSince}
@@ -38,9 +38,9 @@ OnePolicyAnswerLaw = (pace : Pace) (script policy : List ℕ) (one other : Polic
 
 -- two scripts have one list of differences, and one number of its rows
 abbrev pub OneDifferenceLaw : Type 0
-OneDifferenceLaw = (old : List ℕ) (old_after : Option When) (new : List ℕ) (new_after : Option When) (only : Option Only)
-    (one other : ℕ) (text another : List ℕ) → DiffSays old old_after new new_after only one text
-    → DiffSays old old_after new new_after only other another → (one ≡ other) × (text ≡ another)
+OneDifferenceLaw = (old : List ℕ) (old_after : Option When) (new : List ℕ) (new_after : Option When)
+    (asked : AskedChanges) (one other : ℕ) (text another : List ℕ) → DiffSays old old_after new new_after asked one text
+    → DiffSays old old_after new new_after asked other another → (one ≡ other) × (text ≡ another)
 
 abbrev pub OneEntryListLaw : Type 0
 OneEntryListLaw = (script : List ℕ) (after : Option When) (text other : List ℕ)

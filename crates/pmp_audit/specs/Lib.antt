@@ -6,7 +6,7 @@ pub mod SharedAudit
 pub mod LongAudit
 pub mod AskedFile
 pub mod View
-pub mod RightsDiff
+pub mod ScriptDiff
 pub mod Expectations
 pub mod WriteList
 pub mod Reasons

@@ -4,7 +4,7 @@ ghost use Rattle.pmp_audit.specs.Laws.{OneDifferenceLaw, OneEntryListLaw, OneLis
 ghost use Rattle.pmp_audit.specs.Laws.{OneReportLaw, SinceLaw};
 
 use pmp_core::laws::{law_one_decision, law_one_span, law_protected};
-use pmp_map::laws::law_one_list_of_rights_runs;
+use pmp_map::laws::law_one_list_of_compared_runs;
 
 /// Rows have one list of decisions that are each the manual's, however they are come by.
 #[tactic(auto, using(crate::proofs::OneReport::one_list_of_decisions))]
@@ -30,7 +30,7 @@ pub fn law_one_policy_answer()
 pub fn law_one_difference()
     ensures { OneDifferenceLaw }
 {
-    law_one_list_of_rights_runs();
+    law_one_list_of_compared_runs();
 }
 
 /// Where an entry is frozen, it has been so, with its configuration and its bytes, ever since the publication that

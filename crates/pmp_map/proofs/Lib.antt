@@ -10,7 +10,7 @@ pub mod DecidedRuns
 pub mod Starts
 pub mod KeptRights
 pub mod RangeRights
-pub mod RightsRuns
+pub mod ComparedRuns
 pub mod OpenBytes
 pub mod Naming
 pub mod Numbering

@@ -4,6 +4,8 @@ pub mod Answers
 pub mod RangeRights
 pub mod RightsRuns
 pub mod OpenBytes
+pub mod ByteLocks
+pub mod ComparedRuns
 pub mod Request
 pub mod Answer
 -- What private contracts cite: owners by ranges, painting, and a map's tables.

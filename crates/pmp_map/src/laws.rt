@@ -3,8 +3,9 @@
 ghost use Rattle.std.specs.Prelude.{◌≡◌, ◌+◌, ◌*◌, ◌≤◌, List, length};
 ghost use Rattle.pmp_core.specs.RegisterFile.{HasAddresses, RegisterFile};
 ghost use Rattle.pmp_map.specs.declared.run.Run.{Run};
-ghost use Rattle.pmp_map.specs.declared.rights_run.RightsRun.{RightsRun};
-ghost use Rattle.pmp_map.specs.RightsRuns.{AreRightsRuns};
+ghost use Rattle.pmp_map.specs.declared.compared.Aspect.{Aspect};
+ghost use Rattle.pmp_map.specs.declared.compared_run.ComparedRun.{ComparedRun};
+ghost use Rattle.pmp_map.specs.ComparedRuns.{AreComparedRuns};
 ghost use Rattle.pmp_map.specs.Runs.{AreRuns};
 ghost use Rattle.pmp_map.specs.RunsLaw.{InsideRunLaw, AcrossRunsLaw};
 ghost use Rattle.pmp_map.specs.OpenBytesLaw.{HeldByteLaw, OneAnswerLaw, OpenByteLaw};
@@ -36,10 +37,10 @@ pub fn law_across_runs()
     ensures { AcrossRunsLaw }
 {}
 
-/// Two register files have one list of longest ranges of bytes that each of them lets the modes do the same with.
-pub fn law_one_list_of_rights_runs()
-    ensures { (old new : RegisterFile) (one other : List RightsRun) → AreRightsRuns old new one
-        → AreRightsRuns old new other → one ≡ other }
+/// Two register files have one list of longest ranges of bytes of which each of them says the same.
+pub fn law_one_list_of_compared_runs()
+    ensures { (aspect : Aspect) (old new : RegisterFile) (one other : List ComparedRun)
+        → AreComparedRuns aspect old new one → AreComparedRuns aspect old new other → one ≡ other }
 {}
 
 /// A byte is open to what its owner's rule allows, or the default where it has no owner, and to nothing else.

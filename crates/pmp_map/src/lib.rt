@@ -9,6 +9,9 @@
 
 mod answer;
 mod around;
+mod byte_lock;
+mod compared;
+mod compared_run;
 mod cuts;
 mod hold;
 pub mod laws;
@@ -16,7 +19,6 @@ mod mode_rights;
 mod painting;
 mod range_rights;
 mod request;
-mod rights_run;
 mod row;
 mod run;
 mod run_map;
@@ -25,11 +27,13 @@ mod tables;
 
 pub use answer::{NO_CAUSE, answer_number, cause_number, no_access};
 pub use around::run_around;
+pub use byte_lock::ByteLock;
+pub use compared::{Aspect, Compared};
+pub use compared_run::{ComparedRun, compared_run_from};
 pub use hold::is_held;
 pub use mode_rights::{ModeRights, whole_cause};
 pub use range_rights::rights_in;
 pub use request::{access_of, kind_of, mode_of};
-pub use rights_run::{RightsRun, rights_run_from};
 pub use run::{RUNS, Run};
 pub use run_map::RunMap;
 pub use tables::Tables;

@@ -1,4 +1,4 @@
--- The text of where two register files differ in what they let the modes do.
+-- The text of where two register files differ in what they let the modes do with bytes, or in how they lock them.
 use Rattle.std.specs.Prelude.{ℕ, ◌/◌, ◌%◌, ◌==◌, Bool, true, false, ◌&&◌, ◌||◌, not, List, [], ◌∷◌, ◌++◌}
 use Rattle.std.specs.Prelude.{Option, Some, None, codes, if◌then◌else◌}
 use Rattle.std.specs.List.{count_by, flat_map}
@@ -8,7 +8,11 @@ use Rattle.pmp_core.specs.declared.access.Kind.TheVariants.{Fetch, Load, Store}
 use Rattle.pmp_core.specs.declared.perms.Perms.{Perms}
 use Rattle.pmp_core.specs.Perms.{right_of}
 use Rattle.pmp_map.specs.declared.mode_rights.ModeRights.{ModeRights}
-use Rattle.pmp_map.specs.declared.rights_run.RightsRun.{RightsRun}
+use Rattle.pmp_map.specs.declared.byte_lock.ByteLock.{ByteLock}
+use Rattle.pmp_map.specs.declared.byte_lock.ByteLock.TheVariants.{Open, Bypassed, Frozen, Held}
+use Rattle.pmp_map.specs.declared.compared.Compared.{Compared}
+use Rattle.pmp_map.specs.declared.compared.Compared.TheVariants.{Rights, Locks}
+use Rattle.pmp_map.specs.declared.compared_run.ComparedRun.{ComparedRun}
 use Rattle.pmp_text.specs.declared.lines.changes.Change.{Change}
 use Rattle.pmp_text.specs.declared.lines.changes.Change.TheVariants.{More, Less, Both}
 use Rattle.pmp_text.specs.declared.lines.changes.Only.{Only}
@@ -40,9 +44,9 @@ change_by false true = Some More
 change_by true false = Some Less
 change_by true true = Some Both
 
--- how the new file differs from the old one there, if it does
-abbrev pub change_of : RightsRun → Option Change
-change_of run = change_by (goes_beyond run.old run.new) (goes_beyond run.new run.old)
+-- how the new rights differ from the old ones, if they do
+abbrev pub change_of : (old new : ModeRights) → Option Change
+change_of old new = change_by (goes_beyond old new) (goes_beyond new old)
 
 -- `--only more` leaves out `less`, and `--only less` leaves out `more`
 abbrev pub is_asked : Option Only → Change → Bool
@@ -55,8 +59,8 @@ abbrev pub asked_of : Option Only → Option Change → Option Change
 asked_of only None = None
 asked_of only (Some change) = if is_asked only change then Some change else None
 
-abbrev pub asked_change : Option Only → RightsRun → Option Change
-asked_change only run = asked_of only (change_of run)
+abbrev pub asked_change : Option Only → (old new : ModeRights) → Option Change
+asked_change only old new = asked_of only (change_of old new)
 
 abbrev pub change_text : Change → List ℕ
 change_text More = codes "more"
@@ -68,29 +72,61 @@ abbrev pub set_text : Perms → List ℕ
 set_text perms =
     mark 114 (has_right perms Load) ∷ mark 119 (has_right perms Store) ∷ mark 120 (has_right perms Fetch) ∷ []
 
--- the first and the last byte in fourteen digits, the rights of machine mode and of the other modes by the old file,
--- the same by the new, and how it differs
-unfoldable pub change_row : RightsRun → Change → List ℕ
-change_row run change =
-    hex_text ADDRESS_DIGITS run.first
-    ++ fields_after (hex_text ADDRESS_DIGITS run.last ∷ set_text run.old.machine ∷ set_text run.old.others
-    ∷ set_text run.new.machine ∷ set_text run.new.others ∷ change_text change ∷ [])
+-- the first and the last byte in fourteen digits, and the fields behind them
+abbrev pub run_row : ComparedRun → List (List ℕ) → List ℕ
+run_row run fields = hex_text ADDRESS_DIGITS run.first ++ fields_after (hex_text ADDRESS_DIGITS run.last ∷ fields)
 
-abbrev pub row_if : RightsRun → Option Change → List ℕ
-row_if run None = []
-row_if run (Some change) = change_row run change
+-- the rights of machine mode and of the other modes by the old file, the same by the new, and how it differs
+unfoldable pub rights_row : ComparedRun → (old new : ModeRights) → Change → List ℕ
+rights_row run old new change =
+    run_row run (set_text old.machine ∷ set_text old.others ∷ set_text new.machine ∷ set_text new.others
+    ∷ change_text change ∷ [])
 
--- the row of a run, where it has one
-unfoldable pub asked_row : Option Only → RightsRun → List ℕ
-asked_row only run = row_if run (asked_change only run)
+-- how bytes are locked: as their entry's row says it, or `held`
+abbrev pub byte_lock_text : ByteLock → List ℕ
+byte_lock_text Open = codes "-"
+byte_lock_text Bypassed = codes "bypassed"
+byte_lock_text Frozen = codes "frozen"
+byte_lock_text Held = codes "held"
 
-unfoldable pub has_row : Option Only → RightsRun → Bool
-has_row only run = is_some (asked_change only run)
+abbrev pub is_same_lock : (one other : ByteLock) → Bool
+is_same_lock Open Open = true
+is_same_lock Bypassed Bypassed = true
+is_same_lock Frozen Frozen = true
+is_same_lock Held Held = true
+is_same_lock _ _ = false
+
+-- how they are locked by the old file, and by the new
+unfoldable pub locks_row : ComparedRun → (old new : ByteLock) → List ℕ
+locks_row run old new = run_row run (byte_lock_text old ∷ byte_lock_text new ∷ [])
+
+abbrev pub rights_row_if : ComparedRun → (old new : ModeRights) → Option Change → List ℕ
+rights_row_if run old new None = []
+rights_row_if run old new (Some change) = rights_row run old new change
+
+abbrev pub locks_row_unless : ComparedRun → (old new : ByteLock) → (is_same : Bool) → List ℕ
+locks_row_unless run old new true = []
+locks_row_unless run old new false = locks_row run old new
+
+abbrev pub row_by : Option Only → ComparedRun → Compared → List ℕ
+row_by only run (Rights old new) = rights_row_if run old new (asked_change only old new)
+row_by only run (Locks old new) = locks_row_unless run old new (is_same_lock old new)
+
+abbrev pub has_by : Option Only → Compared → Bool
+has_by only (Rights old new) = is_some (asked_change only old new)
+has_by only (Locks old new) = not (is_same_lock old new)
+
+-- the row of a run, where it has one: of rights, if they differ as is asked, or of locks that differ
+unfoldable pub asked_row : Option Only → ComparedRun → List ℕ
+asked_row only run = row_by only run run.both
+
+unfoldable pub has_row : Option Only → ComparedRun → Bool
+has_row only run = has_by only run.both
 
 -- a row for each run where the files differ as is asked
-abbrev pub change_rows : Option Only → List RightsRun → List ℕ
+abbrev pub change_rows : Option Only → List ComparedRun → List ℕ
 change_rows only runs = flat_map (asked_row only) runs
 
 -- how many rows these are
-abbrev pub change_count : Option Only → List RightsRun → ℕ
+abbrev pub change_count : Option Only → List ComparedRun → ℕ
 change_count only runs = count_by (has_row only) runs

@@ -8,7 +8,7 @@ use Rattle.pmp_names.specs.HartLists.{names_of}
 use Rattle.pmp_tool.specs.declared.command.Command.{Command}
 use Rattle.pmp_tool.specs.declared.harts.Harts.{Harts}
 use Rattle.pmp_tool.specs.Commands.{Diff, asked}
-use Rattle.pmp_tool.specs.HartComparisons.{IsComparison}
+use Rattle.pmp_tool.specs.HartComparisons.{IsComparison, compares_locks}
 use Rattle.pmp_tool.specs.Harts.{path_on}
 
 pub are_none : (harts : List HartName) → length harts ≤ 0 → names_of harts ≡ []
@@ -28,7 +28,8 @@ pub is_comparison : (command : Command) (harts : Harts) (one : Command) (others 
     → asked one ≡ record {
       script = script;
       names = option_map (λ path. path.now) command.names;
-      task = Diff command.script.now None None None;
+      task = Diff command.script.now None None
+          (record { only = None; has_locks = compares_locks command.request });
     }
     → others ≡ record { old = false; new = true; names = harts.names }
     → IsComparison command harts one others
@@ -41,7 +42,8 @@ is_comparison command harts one others first script is path asks are =
       asks = asks ∙ ap (λ (path : Text). record {
         script = path;
         names = option_map (λ path. path.now) command.names;
-        task = Diff command.script.now None None None;
+        task = Diff command.script.now None None
+            (record { only = None; has_locks = compares_locks command.request });
       }) path;
       is_old = ap (λ (harts : Harts). harts.old) are;
       is_new = ap (λ (harts : Harts). harts.new) are;

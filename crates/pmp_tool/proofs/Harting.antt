@@ -44,7 +44,7 @@ task_asked new name (request.Show view when) = refl
 task_asked new name request.Writes = refl
 task_asked new name (request.Lint accepted) = refl
 task_asked new name (request.Diff diff) = refl
-task_asked new name request.Harts = refl
+task_asked new name (request.Harts has_locks) = refl
 task_asked new name (request.Import import) = refl
 
 -- so is a command of it

@@ -139,7 +139,7 @@ module _ (before after : Option (List ℕ)) (scripts traces : Inputs) where
   request_keeps script (request.Diff diff) failure fails two =
       inr (moment_keeps fails (λ fails. input_keeps fails (λ new fails.
       moment_keeps fails (λ fails. declines_keep fails two))))
-  request_keeps script request.Harts failure fails two = inr fails.1
+  request_keeps script (request.Harts has_locks) failure fails two = inr fails.1
   request_keeps script (request.Import import) failure fails two = inl (inr (import, refl))
 
   command_keeps : (command : Command) (failure : Failure) → CommandFails scripts traces command before after failure

@@ -48,6 +48,7 @@ rule_in argument.OldAfter = option_rule (codes "old-after")
 rule_in argument.NewAfter = option_rule (codes "new-after")
 rule_in argument.Expect = option_rule (codes "expect")
 rule_in argument.Only = option_rule (codes "only")
+rule_in argument.Locks = flag_rule (codes "locks")
 rule_in argument.Accept = option_rule (codes "accept")
 rule_in argument.FirstRow = option_rule (codes "first-row")
 rule_in argument.Checkers = count_rule (codes "checkers") CHECKERS
@@ -109,8 +110,8 @@ arguments_of Writes = argument.Script ∷ argument.Explain ∷ []
 arguments_of Lint = argument.Script ∷ argument.Explain ∷ argument.Accept ∷ argument.Names ∷ []
 arguments_of Diff =
     argument.Old ∷ argument.Explain ∷ argument.New ∷ argument.OldAfter ∷ argument.NewAfter ∷ argument.Only
-    ∷ argument.Names ∷ []
-arguments_of Harts = argument.Harts ∷ argument.Explain ∷ argument.Names ∷ []
+    ∷ argument.Locks ∷ argument.Names ∷ []
+arguments_of Harts = argument.Harts ∷ argument.Explain ∷ argument.Locks ∷ argument.Names ∷ []
 arguments_of Import =
     argument.Format ∷ argument.Explain ∷ argument.Log ∷ argument.Hart ∷ argument.Xlen ∷ argument.Entries ∷ argument.Grain
     ∷ argument.AddressBits ∷ argument.Smepmp ∷ argument.Bursts ∷ argument.Folder ∷ []

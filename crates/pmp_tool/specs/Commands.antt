@@ -15,12 +15,12 @@ use Rattle.pmp_import.specs.Formats.{format_named}
 use Rattle.pmp_lint.specs.Findings.{accepted_said}
 use Rattle.pmp_lint.specs.declared.accepted.Accepted.{Accepted}
 use Rattle.pmp_text.specs.AccessWords.{kind_named, mode_named}
-use Rattle.pmp_text.specs.declared.lines.changes.Only.{Only}
 use Rattle.pmp_text.specs.declared.moments.When.{When}
 use Rattle.pmp_text.specs.Moments.{when_said}
 use Rattle.pmp_text.specs.Numbers.{word_number}
 use Rattle.pmp_audit.specs.declared.policy_check.steps.Pace.{Pace}
 use Rattle.pmp_audit.specs.declared.policy_check.steps.Pace.TheVariants.{Events, Publications}
+use Rattle.pmp_audit.specs.declared.script_diff.AskedChanges.{AskedChanges}
 use Rattle.pmp_audit.specs.declared.view.View.{View}
 use Rattle.pmp_audit.specs.declared.view.View.TheVariants.{Registers, Script, Runs, Picture, Entries}
 use Rattle.pmp_share.specs.declared.opening.TheConstants.{CHECKERS}
@@ -58,8 +58,8 @@ pub data Task : Type 0 where
   Show : View → (after : Option When) → Task
   Writes : Task
   Lint : (accepted : Option Accepted) → Task
-  Diff : (new : Text) (old_after new_after : Option When) → Option Only → Task
-  Harts : Task
+  Diff : (new : Text) (old_after new_after : Option When) → AskedChanges → Task
+  Harts : (has_locks : Bool) → Task
   Import : (log : Text) → Format → Options → (folder : Option Text) → Task
 
 abbrev pub access_task : Access → AccessTask
@@ -74,8 +74,8 @@ task_of (request.Policy policy pace) = Policy policy.now pace
 task_of (request.Show view after) = Show view after
 task_of request.Writes = Writes
 task_of (request.Lint accepted) = Lint accepted
-task_of (request.Diff diff) = Diff diff.new.now diff.old_after diff.new_after diff.only
-task_of request.Harts = Harts
+task_of (request.Diff diff) = Diff diff.new.now diff.old_after diff.new_after diff.changes
+task_of (request.Harts has_locks) = Harts has_locks
 task_of (request.Import log) = Import log.log.now log.format log.options (option_map (λ path. path.now) log.folder)
 
 -- a task, the path of the script, and that of names for its rows
@@ -169,7 +169,8 @@ diff_in rows =
     and_then (second_in argument.New rows) (λ new.
     and_then (asked_in when_said argument.OldAfter rows) (λ old_after.
     and_then (asked_in when_said argument.NewAfter rows) (λ new_after.
-    and_then (asked_in only_named argument.Only rows) (λ only. Ok (Diff new old_after new_after only)))))
+    and_then (asked_in only_named argument.Only rows) (λ only.
+    Ok (Diff new old_after new_after (record { only = only; has_locks = is_set argument.Locks rows }))))))
 
 -- the form of a log
 abbrev pub format_in : List Row → Result Format FaultLine
@@ -226,7 +227,7 @@ task_in name.Entries rows = show_in Entries rows
 task_in name.Writes rows = Ok Writes
 task_in name.Lint rows = and_then (asked_in accepted_said argument.Accept rows) (λ accepted. Ok (Lint accepted))
 task_in name.Diff rows = diff_in rows
-task_in name.Harts rows = Ok Harts
+task_in name.Harts rows = Ok (Harts (is_set argument.Locks rows))
 task_in name.Import rows = import_in rows
 
 abbrev pub command_named : Text → Option CommandName

@@ -18,15 +18,20 @@ use Rattle.pmp_tool.specs.Inputs.{Inputs}
 
 -- the harts of a folder are to be compared with each other
 abbrev pub compares_harts : Request → Bool
-compares_harts request.Harts = true
+compares_harts (request.Harts has_locks) = true
 compares_harts _ = false
 
+-- in their locks too
+abbrev pub compares_locks : Request → Bool
+compares_locks (request.Harts has_locks) = has_locks
+compares_locks _ = false
+
 -- all bytes of the first hart's script, and of the script of each hart of the folder
-abbrev pub compared_with : (first : Text) → Asked → Asked
-compared_with first asked = record {
+abbrev pub compared_with : (first : Text) (has_locks : Bool) → Asked → Asked
+compared_with first has_locks asked = record {
   script = path_on true asked.script first;
   names = asked.names;
-  task = Diff asked.script None None None;
+  task = Diff asked.script None None (record { only = None; has_locks = has_locks });
 }
 
 -- a comparison of the folder's harts with the first of them
@@ -34,7 +39,7 @@ pub record IsComparison (command : Command) (harts : Harts) (one : Command) (oth
   pub first : Text
   pub rest : List Text
   pub are : names_of harts.names.items ≡ first ∷ rest
-  pub asks : asked one ≡ compared_with first (asked command)
+  pub asks : asked one ≡ compared_with first (compares_locks command.request) (asked command)
   pub is_old : others.old ≡ false
   pub is_new : others.new ≡ true
   pub same : others.names ≡ harts.names

@@ -18,7 +18,7 @@ use Rattle.pmp_tool.specs.Names.{named_by}
 
 -- the new script is at this path, where there is one
 abbrev pub with_new : (path : Text) → Task → Task
-with_new path (Diff new old_after new_after only) = Diff path old_after new_after only
+with_new path (Diff new old_after new_after changes) = Diff path old_after new_after changes
 with_new path task = task
 
 module _ (scripts traces : Inputs) (command : Command) (naming : Option Naming) where

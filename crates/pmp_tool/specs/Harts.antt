@@ -41,7 +41,7 @@ takes_folder (request.Show Entries when) = true
 takes_folder request.Writes = true
 takes_folder (request.Lint accepted) = true
 takes_folder (request.Diff diff) = true
-takes_folder request.Harts = true
+takes_folder (request.Harts has_locks) = true
 takes_folder _ = false
 
 -- the new one of two scripts

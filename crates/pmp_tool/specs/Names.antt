@@ -15,7 +15,7 @@ columns_of (request.Show Runs when) = Some (record { first = 0; last = 1 })
 columns_of (request.Show Entries when) = Some (record { first = 2; last = 3 })
 columns_of (request.Diff diff) = Some (record { first = 0; last = 1 })
 columns_of (request.Lint accepted) = Some (record { first = 4; last = 5 })
-columns_of request.Harts = Some (record { first = 0; last = 1 })
+columns_of (request.Harts has_locks) = Some (record { first = 0; last = 1 })
 columns_of (request.Policy path pace) = Some (record { first = 3; last = 4 })
 columns_of _ = None
 

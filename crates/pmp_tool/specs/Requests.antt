@@ -24,7 +24,7 @@ use Rattle.pmp_audit.specs.Answers.{IsRefused}
 use Rattle.pmp_audit.specs.declared.fault.Side.{Side}
 use Rattle.pmp_audit.specs.declared.fault.Side.TheVariants.{Old, New}
 use Rattle.pmp_audit.specs.AskedFile.{FileRefuses}
-use Rattle.pmp_audit.specs.RightsDiff.{DiffRefuses, DiffSays}
+use Rattle.pmp_audit.specs.ScriptDiff.{DiffRefuses, DiffSays}
 use Rattle.pmp_audit.specs.declared.long_audit.TheConstants.{PIECE}
 use Rattle.pmp_audit.specs.LongAudit.{LongAuditSays, StopsLong}
 use Rattle.pmp_audit.specs.Reasons.{FindingsSay, ReasonsSay}
@@ -124,7 +124,7 @@ RequestSays scripts traces script (Lint accepted) (Found told) text =
     FindingsSay script (option_to_list accepted) told text
 RequestSays scripts traces script (Diff diff) (Compared rows) text =
     (new : List ℕ) × AreBytesOf (scripts diff.new.now) new
-    × DiffSays script diff.old_after new diff.new_after diff.only rows text
+    × DiffSays script diff.old_after new diff.new_after diff.changes rows text
 RequestSays scripts traces script (OfLog import) (Imported note) text =
     ImportSays (traces import.log.now) import note text
 RequestSays _ _ _ _ _ _ = ⊥
@@ -200,8 +200,8 @@ module _ (before after : Option (List ℕ)) where
         MomentFails script argument.OldAfter diff.old_after
         (ScriptFails (scripts diff.new.now) (Some New)
         (λ new. MomentFails new argument.NewAfter diff.new_after
-        (Declines (DiffSays script diff.old_after new diff.new_after diff.only)
+        (Declines (DiffSays script diff.old_after new diff.new_after diff.changes)
         (DiffRefuses script diff.old_after new diff.new_after))))
     -- one script has no other hart
-    RequestFails Harts = λ failure. (failure ≡ refused BadFolder) × Keeps before after
+    RequestFails (Harts has_locks) = λ failure. (failure ≡ refused BadFolder) × Keeps before after
     RequestFails (OfLog import) = ImportFails (traces import.log.now) import before after

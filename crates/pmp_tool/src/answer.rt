@@ -74,7 +74,7 @@ fn answer_request<R: Threads + Wait + Sync, I: Inputs, O: Write>(
         Request::Writes => Ok(Outcome::Replayed(writes(alloc, script, out)?)),
         Request::Lint(accepted) => answer_lint(alloc, script, accepted, out),
         Request::Diff(asked) => answer_diff(alloc, script, asked, inputs, out),
-        Request::Harts => Err(Failure::from(Refusal::BadFolder)),
+        Request::Harts(_) => Err(Failure::from(Refusal::BadFolder)),
         Request::Import(asked) => answer_import(alloc, asked, inputs, out),
     }
 }
@@ -252,7 +252,15 @@ fn answer_diff<I: Inputs, O: Write>(
     allow_name(script, Argument::OldAfter, old_after)?;
     let new = script_at(inputs, asked.new, Some(Side::New))?;
     allow_name(&new, Argument::NewAfter, new_after)?;
-    let rows = diff(alloc, script, old_after, &new, new_after, asked.only, out)?;
+    let rows = diff(
+        alloc,
+        script,
+        old_after,
+        &new,
+        new_after,
+        asked.changes,
+        out,
+    )?;
     Ok(Outcome::Compared(rows))
 }
 

@@ -34,6 +34,7 @@ pub enum Argument {
     NewAfter,
     Expect,
     Only,
+    Locks,
     Accept,
     FirstRow,
     Checkers,
@@ -80,6 +81,7 @@ impl Argument {
             NewAfter => "new-after",
             Expect => "expect",
             Only => "only",
+            Locks => "locks",
             Accept => "accept",
             FirstRow => "first-row",
             Checkers => "checkers",
@@ -110,7 +112,7 @@ impl Argument {
             Kind => "KIND",
             Start => "START",
             Length => "LENGTH",
-            Explain | Long | EachWrite | AsScript | Bursts => "",
+            Explain | Long | EachWrite | AsScript | Locks | Bursts => "",
             After | OldAfter | FirstRow | Jobs | Hart | Xlen | Entries | AddressBits => "N",
             Grain => "BYTES",
             Smepmp => "ANSWER",
@@ -148,6 +150,7 @@ impl Argument {
             NewAfter => help::NEW_AFTER,
             Expect => help::EXPECT,
             Only => help::ONLY,
+            Locks => help::LOCKS,
             Accept => help::ACCEPT,
             FirstRow => help::FIRST_ROW,
             Checkers => help::CHECKERS,
@@ -176,7 +179,7 @@ impl Argument {
         use Argument::*;
         let (id, name, help) = (self.id(), self.name(), self.help());
         match self {
-            Explain | Long | EachWrite | Bursts => flag(alloc, id, help),
+            Explain | Long | EachWrite | Locks | Bursts => flag(alloc, id, help),
             AsScript => flag(alloc, id, help).long("script"),
             After
             | OldAfter

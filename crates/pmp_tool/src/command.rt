@@ -16,7 +16,7 @@ use crate::jobs::JOBS;
 use crate::request::{Audit, Check, Diff, Import, LongAudit, Request, Why};
 use crate::word::{Smepmp, Xlen, asked, count, is_bare_word, is_set, is_used, needed, word};
 use clap::ArgMatches;
-use pmp_audit::{Pace, View};
+use pmp_audit::{AskedChanges, Pace, View};
 use pmp_core::Access;
 use pmp_import::{Format, Options};
 use pmp_share::CHECKERS;
@@ -83,7 +83,7 @@ fn read_request<'a>(name: CommandName, words: &ArgMatches<'a>) -> Result<Request
         CommandName::Writes => Ok(Request::Writes),
         CommandName::Lint => Ok(Request::Lint(asked(words, Argument::Accept)?)),
         CommandName::Diff => read_diff(words),
-        CommandName::Harts => Ok(Request::Harts),
+        CommandName::Harts => Ok(Request::Harts(is_set(words, Argument::Locks))),
         CommandName::Import => read_import(words),
     }
 }
@@ -208,7 +208,10 @@ fn read_diff<'a>(words: &ArgMatches<'a>) -> Result<Request<'a>, FaultLine>
         new,
         old_after,
         new_after,
-        only,
+        changes: AskedChanges {
+            only,
+            has_locks: is_set(words, Argument::Locks),
+        },
     }))
 }
 

@@ -117,8 +117,8 @@ impl CommandName {
             CommandName::Entries => &[Script, Explain, After, Names],
             CommandName::Writes => &[Script, Explain],
             CommandName::Lint => &[Script, Explain, Accept, Names],
-            CommandName::Diff => &[Old, Explain, New, OldAfter, NewAfter, Only, Names],
-            CommandName::Harts => &[Harts, Explain, Names],
+            CommandName::Diff => &[Old, Explain, New, OldAfter, NewAfter, Only, Locks, Names],
+            CommandName::Harts => &[Harts, Explain, Locks, Names],
             CommandName::Import => &[
                 Format,
                 Explain,

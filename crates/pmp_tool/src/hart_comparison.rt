@@ -2,6 +2,7 @@
 
 ghost use Rattle.std.specs.Prelude.{◌≡◌, IfErr, IfOk};
 ghost use Rattle.pmp_tool.specs.HartComparisons.{CantCompare, FolderAnswer, FolderFails, HartsCompare, compares_harts};
+ghost use Rattle.pmp_tool.specs.HartComparisons.{compares_locks};
 
 use crate::command::Command;
 use crate::failure::Failure;
@@ -11,6 +12,7 @@ use crate::inputs::Inputs;
 use crate::naming::Naming;
 use crate::outcome::Outcome;
 use crate::request::{Diff, Request};
+use pmp_audit::AskedChanges;
 use pmp_text::Refusal;
 use std::alloc::Global;
 use std::io::Write;
@@ -21,7 +23,14 @@ use std::thread::Threads;
 fn compares_harts(request: Request<'_>) -> bool
     ensures { result ≡ compares_harts request.entry }
 {
-    matches!(request, Request::Harts)
+    matches!(request, Request::Harts(_))
+}
+
+/// Whether their locks are to be compared too.
+fn compares_locks(request: Request<'_>) -> bool
+    ensures { result ≡ compares_locks request.entry }
+{
+    matches!(request, Request::Harts(true))
 }
 
 /// Answers a command that is asked of the harts of a folder.
@@ -74,7 +83,10 @@ fn compare_harts<R: Threads + Wait + Sync, I: Inputs, O: Write>(
             new: command.script,
             old_after: None,
             new_after: None,
-            only: None,
+            changes: AskedChanges {
+                only: None,
+                has_locks: compares_locks(command.request),
+            },
         }),
     };
     let others = Harts {

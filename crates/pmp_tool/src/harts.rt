@@ -36,7 +36,7 @@ fn takes_folder(request: Request<'_>) -> bool
     match request {
         Request::Check(_) | Request::Why(_) | Request::Audit(_) | Request::Policy(..) => true,
         Request::Show(View::Runs | View::Entries, _) | Request::Writes | Request::Diff(_) => true,
-        Request::Lint(_) | Request::Harts => true,
+        Request::Lint(_) | Request::Harts(_) => true,
         Request::LongAudit(_) | Request::Show(..) | Request::Import(_) => false,
     }
 }

@@ -58,6 +58,9 @@ pub const NEW_AFTER: &str = "Takes the first M publications of the new script";
 pub const ONLY: &str =
     "Writes the rows that gain something, where CHANGE is more, or those that lose something, where it is less";
 
+pub const LOCKS: &str =
+    "Writes a row too for each of the longest ranges of bytes that the two lock otherwise";
+
 pub const ACCEPT: &str =
     "Leaves out findings with the name FINDING, or with FINDING:LINE those of one line";
 

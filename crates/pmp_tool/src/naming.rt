@@ -21,7 +21,7 @@ fn columns_of(request: Request<'_>) -> Option<Columns>
     ensures { result ≡ columns_of request.entry }
 {
     match request {
-        Request::Show(View::Runs, _) | Request::Diff(_) | Request::Harts => {
+        Request::Show(View::Runs, _) | Request::Diff(_) | Request::Harts(_) => {
             Some(Columns { first: 0, last: 1 })
         }
         Request::Show(View::Entries, _) => Some(Columns { first: 2, last: 3 }),

@@ -4,12 +4,12 @@ ghost use Rattle.std.specs.Prelude.{◌≡◌, ℕ, ◌≤◌, Some};
 ghost use Rattle.pmp_share.specs.declared.opening.TheConstants.{CHECKERS};
 
 use crate::expected::Expected;
-use pmp_audit::{Pace, View};
+use pmp_audit::{AskedChanges, Pace, View};
 use pmp_core::Access;
 use pmp_import::{Format, Options};
 use pmp_lint::Accepted;
 use pmp_share::CHECKERS;
-use pmp_text::{Only, When};
+use pmp_text::When;
 
 /// The decision on an access.
 #[derive(Clone, Copy)]
@@ -73,8 +73,8 @@ pub struct Diff<'a> {
     pub old_after: Option<When>,
     /// When the new one is.
     pub new_after: Option<When>,
-    /// Which changes are asked for, where not all are.
-    pub only: Option<Only>,
+    /// Which rows are asked for.
+    pub changes: AskedChanges,
 }
 
 /// What is asked for of a script.
@@ -92,7 +92,7 @@ pub enum Request<'a> {
     /// What is found in it, and which findings are accepted.
     Lint(Option<Accepted>),
     Diff(Diff<'a>),
-    /// Where the harts of a folder differ.
-    Harts,
+    /// Where the harts of a folder differ, and whether in their locks too.
+    Harts(bool),
     Import(Import<'a>),
 }

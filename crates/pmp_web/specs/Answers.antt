@@ -20,7 +20,7 @@ use Rattle.pmp_audit.specs.View.{ViewSays}
 use Rattle.pmp_audit.specs.declared.view.View.{View}
 use Rattle.pmp_audit.specs.WriteList.{WritesSay}
 use Rattle.pmp_audit.specs.PolicyCheck.{VerdictRefuses, VerdictSays}
-use Rattle.pmp_audit.specs.RightsDiff.{DiffSays}
+use Rattle.pmp_audit.specs.ScriptDiff.{DiffSays}
 use Rattle.pmp_import.specs.declared.fault.ImportFault.{ImportFault}
 use Rattle.pmp_import.specs.declared.format.Format.{Format}
 use Rattle.pmp_import.specs.declared.options.Options.{Options}
@@ -111,7 +111,8 @@ AnswersVerdict script (Some it) status answer =
 abbrev pub DiffAnswerSays : (old : List ℕ) → (old_after : ℕ) → (new : List ℕ) → (new_after : ℕ) → (text : List ℕ)
     → Type 0
 DiffAnswerSays old old_after new new_after text =
-    (rows : ℕ) × DiffSays old (Some (Number old_after)) new (Some (Number new_after)) None rows text
+    (rows : ℕ) × DiffSays old (Some (Number old_after)) new (Some (Number new_after))
+    (record { only = None; has_locks = false }) rows text
 
 -- ---- logs
 

@@ -12,7 +12,7 @@
 ghost use Rattle.std.specs.Prelude.{Some};
 ghost use Rattle.pmp_audit.specs.WriteList.{WritesRefuse};
 ghost use Rattle.pmp_text.specs.declared.moments.When.TheVariants.{Number};
-ghost use Rattle.pmp_audit.specs.RightsDiff.{DiffRefuses};
+ghost use Rattle.pmp_audit.specs.ScriptDiff.{DiffRefuses};
 ghost use Rattle.pmp_web.specs.Answers.{Answers, AnswersCheck, AnswersImport, AnswersVerdict, AnswersView};
 ghost use Rattle.pmp_web.specs.Answers.{CountSays, DiffAnswerSays, RowsSay};
 ghost use Rattle.pmp_web.specs.Demand.{question_of};
@@ -24,7 +24,9 @@ mod request;
 mod rooms;
 
 use answering::{ANSWERED, GUESSED, Log, append_count, refuse, refuse_log, refuse_question, tell};
-use pmp_audit::{append_check, append_diff, append_verdict, append_view, append_writes};
+use pmp_audit::{
+    AskedChanges, append_check, append_diff, append_verdict, append_view, append_writes,
+};
 use pmp_import::append_import;
 use pmp_text::{Refusal, When};
 pub use rooms::{Answer, Demand, Script};
@@ -152,7 +154,10 @@ pub extern "C" fn tilvenka_page_diff(
             Some(When::Number(old_after)),
             new.text(),
             Some(When::Number(new_after)),
-            None,
+            AskedChanges {
+                only: None,
+                has_locks: false,
+            },
             answer,
         )
     )

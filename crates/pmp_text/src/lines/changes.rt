@@ -1,15 +1,16 @@
-//! Where two register files differ in what they let the modes do, as rows.
+//! Where two register files differ in what they let the modes do with bytes, or in how they lock them, as rows.
 
-ghost use Rattle.std.specs.Prelude.{◌≡◌, ◌++◌, IfOk, OnOk, OnErr};
-ghost use Rattle.pmp_text.specs.Changes.{asked_change, asked_row, change_by, change_of, change_row, change_text};
-ghost use Rattle.pmp_text.specs.Changes.{goes_beyond, has_beyond, has_row, is_asked};
+ghost use Rattle.std.specs.Prelude.{◌≡◌, ◌++◌, IfOk, OnOk, OnErr, is_some, not};
+ghost use Rattle.pmp_text.specs.Changes.{asked_change, asked_row, byte_lock_text, change_by, change_of, change_text};
+ghost use Rattle.pmp_text.specs.Changes.{goes_beyond, has_beyond, has_row, is_asked, is_same_lock, locks_row};
+ghost use Rattle.pmp_text.specs.Changes.{locks_row_unless, rights_row, rights_row_if};
 
 use crate::lines::hexadecimal::{ADDRESS_DIGITS, Hex};
 use crate::lines::marks::ModeMarks;
 use crate::lines::{NoMemory, append_line};
 use crate::sink::Sink;
 use pmp_core::{Kind, Perms};
-use pmp_map::{ModeRights, RightsRun};
+use pmp_map::{ByteLock, Compared, ComparedRun, ModeRights};
 
 /// How a new register file differs from an old one in what it lets the modes do with bytes.
 #[derive(Clone, Copy, Debug, PartialEq, Eq)]
@@ -22,7 +23,7 @@ pub enum Change {
     Both,
 }
 
-/// Which changes are asked for, where not all are.
+/// Which changes of rights are asked for, where not all are.
 #[derive(Clone, Copy, Debug, PartialEq, Eq)]
 pub enum Only {
     /// Those by which something is gained.
@@ -47,14 +48,11 @@ fn goes_beyond(one: &ModeRights, other: &ModeRights) -> bool
     has_beyond(one.machine, other.machine) || has_beyond(one.others, other.others)
 }
 
-/// How the files differ there, if they do.
-fn change_of(run: &RightsRun) -> Option<Change>
-    ensures { result ≡ change_of run.now }
+/// How the files differ in what they let the modes do, if they do.
+fn change_of(old: &ModeRights, new: &ModeRights) -> Option<Change>
+    ensures { result ≡ change_of old.now new.now }
 {
-    match (
-        goes_beyond(&run.old, &run.new),
-        goes_beyond(&run.new, &run.old),
-    ) {
+    match (goes_beyond(old, new), goes_beyond(new, old)) {
         (false, false) => None,
         (false, true) => Some(Change::More),
         (true, false) => Some(Change::Less),
@@ -82,37 +80,123 @@ fn change_word(change: Change) -> &'static str
     }
 }
 
-#[tactic(auto, unfolding(crate::specs::Changes::change_row, crate::specs::Steps::Marks::perms_text))]
-fn append_change<S: Sink>(out: &mut S, run: &RightsRun, change: Change) -> Result<(), NoMemory>
-    ensures ok { OnOk result (S.text out.new ≡ S.text out.old ++ change_row run.now change) }
+/// The word of how bytes are locked: that of an entry's lock, or `held`.
+fn byte_lock_word(lock: ByteLock) -> &'static str
+    ensures { result.now ≡ byte_lock_text lock }
+{
+    match lock {
+        ByteLock::Open => "-",
+        ByteLock::Bypassed => "bypassed",
+        ByteLock::Frozen => "frozen",
+        ByteLock::Held => "held",
+    }
+}
+
+fn is_same_lock(one: ByteLock, other: ByteLock) -> bool
+    ensures { result ≡ is_same_lock one other }
+{
+    match (one, other) {
+        (ByteLock::Open, ByteLock::Open) => true,
+        (ByteLock::Bypassed, ByteLock::Bypassed) => true,
+        (ByteLock::Frozen, ByteLock::Frozen) => true,
+        (ByteLock::Held, ByteLock::Held) => true,
+        _ => false,
+    }
+}
+
+#[tactic(auto, unfolding(crate::specs::Changes::rights_row, crate::specs::Steps::Marks::perms_text))]
+fn append_rights<S: Sink>(
+    out: &mut S,
+    run: &ComparedRun,
+    old: ModeRights,
+    new: ModeRights,
+    change: Change,
+) -> Result<(), NoMemory>
+    ensures ok { OnOk result (S.text out.new ≡ S.text out.old ++ rights_row run.now old new change) }
     ensures err { OnErr result (S.text out.new ≡ S.text out.old) }
 {
     let first = Hex::<ADDRESS_DIGITS>::new(run.first);
     let last = Hex::<ADDRESS_DIGITS>::new(run.last);
-    let old = ModeMarks(run.old);
-    let new = ModeMarks(run.new);
+    let old = ModeMarks(old);
+    let new = ModeMarks(new);
     let change = change_word(change);
     append_line(out, format_args!("{first},{last},{old},{new},{change}\n"))
 }
 
-/// Appends the row of a run where the files differ as is asked, `FIRST,LAST,MOLD,SUOLD,MNEW,SUNEW,CHANGE` and LF: the
-/// first and the last byte in fourteen hexadecimal digits, what the old file lets machine mode do there and what the
-/// other two, the same of the new, and how they differ. Answers whether it has a row.
+#[tactic(auto, unfolding(crate::specs::Changes::locks_row))]
+fn append_locks<S: Sink>(
+    out: &mut S,
+    run: &ComparedRun,
+    old: ByteLock,
+    new: ByteLock,
+) -> Result<(), NoMemory>
+    ensures ok { OnOk result (S.text out.new ≡ S.text out.old ++ locks_row run.now old new) }
+    ensures err { OnErr result (S.text out.new ≡ S.text out.old) }
+{
+    let first = Hex::<ADDRESS_DIGITS>::new(run.first);
+    let last = Hex::<ADDRESS_DIGITS>::new(run.last);
+    let old = byte_lock_word(old);
+    let new = byte_lock_word(new);
+    append_line(out, format_args!("{first},{last},{old},{new}\n"))
+}
+
+/// Appends the row of a run of rights, where they differ as is asked, and answers whether it has one.
+fn write_rights<S: Sink>(
+    out: &mut S,
+    run: &ComparedRun,
+    old: ModeRights,
+    new: ModeRights,
+    only: Option<Only>,
+) -> Result<bool, NoMemory>
+    ensures ok { OnOk result
+        (S.text out.new ≡ S.text out.old ++ rights_row_if run.now old new (asked_change only old new)) }
+    ensures has { IfOk result (λ has. has ≡ is_some (asked_change only old new)) }
+    ensures err { OnErr result (S.text out.new ≡ S.text out.old) }
+{
+    match change_of(&old, &new) {
+        Some(change) if is_asked(only, change) => {
+            append_rights(out, run, old, new, change)?;
+            Ok(true)
+        }
+        _ => Ok(false),
+    }
+}
+
+/// Appends the row of a run of locks, where they differ, and answers whether it has one.
+fn write_locks<S: Sink>(
+    out: &mut S,
+    run: &ComparedRun,
+    old: ByteLock,
+    new: ByteLock,
+) -> Result<bool, NoMemory>
+    ensures ok { OnOk result
+        (S.text out.new ≡ S.text out.old ++ locks_row_unless run.now old new (is_same_lock old new)) }
+    ensures has { IfOk result (λ has. has ≡ not (is_same_lock old new)) }
+    ensures err { OnErr result (S.text out.new ≡ S.text out.old) }
+{
+    if is_same_lock(old, new) {
+        return Ok(false);
+    }
+    append_locks(out, run, old, new)?;
+    Ok(true)
+}
+
+/// Appends the row of a run where the files differ, and answers whether it has one: the first and the last byte in
+/// fourteen hexadecimal digits, and LF behind the rest. Of rights, if they differ as is asked, that is
+/// `FIRST,LAST,MOLD,SUOLD,MNEW,SUNEW,CHANGE`: what the old file lets machine mode do there and what the other two, the
+/// same of the new, and how they differ; of locks `FIRST,LAST,LOCKOLD,LOCKNEW`.
 #[tactic(auto, unfolding(crate::specs::Changes::asked_row, crate::specs::Changes::has_row))]
 pub fn write_change<S: Sink>(
     out: &mut S,
-    run: &RightsRun,
+    run: &ComparedRun,
     only: Option<Only>,
 ) -> Result<bool, NoMemory>
     ensures ok { OnOk result (S.text out.new ≡ S.text out.old ++ asked_row only run.now) }
     ensures has { IfOk result (λ has. has ≡ has_row only run.now) }
     ensures err { OnErr result (S.text out.new ≡ S.text out.old) }
 {
-    match change_of(run) {
-        Some(change) if is_asked(only, change) => {
-            append_change(out, run, change)?;
-            Ok(true)
-        }
-        _ => Ok(false),
+    match run.both {
+        Compared::Rights(old, new) => write_rights(out, run, old, new, only),
+        Compared::Locks(old, new) => write_locks(out, run, old, new),
     }
 }

@@ -1,12 +1,12 @@
 use Rattle.std.proofs.Common.{◌≡◌, ◌+◌, cond, ap, sym, subst, ◌∙◌, ℕ, arith}
 use Rattle.pmp_text.specs.Changes.{has_row}
 use Rattle.pmp_audit.proofs.Differences.{AreWrittenTo, one_more_written}
-use Rattle.pmp_audit.proofs.rights_diff.write_differences.Goals as goal
-use Rattle.pmp_audit.proofs.rights_diff.write_differences.Goals.{then-branch, else-branch}
+use Rattle.pmp_audit.proofs.script_diff.write_differences.Goals as goal
+use Rattle.pmp_audit.proofs.script_diff.write_differences.Goals.{then-branch, else-branch}
 
 pub loop-first-preserved : goal.loop-first-preserved
 loop-first-preserved g c =
-    let run = c.rights_run_from-run.result in
+    let run = c.compared_run_from-run.result in
     let has = c.in_ok-write_change.ensures.has in
     let counted : c.if-branch.rows ≡ c.loop-first.rows + cond (has_row c.args.only run) 1 0 =
     elim c.if-branch.branch [
@@ -14,9 +14,12 @@ loop-first-preserved g c =
       | else-branch w ↦
           w.rows-is ∙ omega arith ∙ ap (λ b. c.loop-first.rows + cond b 1 0) (sym w.if-branch.false ∙ has)
     ] in
-    subst (λ (n : ℕ). AreWrittenTo c.args.old.now c.args.new.now c.args.only (g.S.Sink.text c.args.out.now)
+    subst (λ (n : ℕ). AreWrittenTo c.args.aspect c.args.old.now c.args.new.now c.args.only (g.S.Sink.text c.args.out.now)
     (run.last + 1) n (g.S.Sink.text c.write_change.new.out)) (sym counted)
-    (one_more_written c.args.old.now c.args.new.now c.args.only (g.S.Sink.text c.args.out.now) c.loop-first.first
+    (one_more_written c.args.aspect c.args.old.now c.args.new.now c.args.only (g.S.Sink.text c.args.out.now) c.loop-first.first
     c.loop-first.rows (g.S.Sink.text c.loop-first.out) (g.S.Sink.text c.write_change.new.out) run
-    c.loop-first.invariant c.rights_run_from-run.ensures.begins c.rights_run_from-run.ensures.longest
+    c.loop-first.invariant c.compared_run_from-run.ensures.begins c.compared_run_from-run.ensures.longest
     c.in_ok-write_change.ensures.ok)
+
+pub returns-clause-few : goal.returns-clause-few
+returns-clause-few g c = omega (arith, c.loop-first.invariant.few, c.loop-first.invariant.inside)

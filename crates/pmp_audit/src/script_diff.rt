@@ -1,9 +1,10 @@
-//! Where the register files of two scripts differ in what they let the modes do.
+//! Where the register files of two scripts differ in what they let the modes do, and in how they lock.
 
-ghost use Rattle.std.specs.Prelude.{◌≡◌, IfOk, IfErr, OnErr};
+ghost use Rattle.std.specs.Prelude.{◌≡◌, ◌≤◌, IfOk, IfErr, OnErr};
 ghost use Rattle.pmp_audit.specs.Answers.{Declines, IsAppended, IsWritten, IsRefused};
 ghost use Rattle.pmp_audit.specs.Growing.{HasGrown};
-ghost use Rattle.pmp_audit.specs.RightsDiff.{ChangesSay, DiffRefuses, DiffSays, GivesFile};
+ghost use Rattle.pmp_core.specs.declared.access.TheConstants.{ADDRESS_LIMIT};
+ghost use Rattle.pmp_audit.specs.ScriptDiff.{ChangesSay, DiffRefuses, DiffSays, FilesSay, GivesFile, LocksSay};
 ghost use Rattle.pmp_audit.specs.Sides.{FailsFile};
 
 use crate::answer::write_answer;
@@ -11,15 +12,25 @@ use crate::asked_count::asked_count;
 use crate::fault::{AuditFault, Side};
 use crate::replay::Replay;
 use pmp_core::{ADDRESS_LIMIT, RegFile, Registers};
-use pmp_map::rights_run_from;
+use pmp_map::{Aspect, compared_run_from};
 use pmp_text::{EventLog, GrowingLog, Only, Sink, When, read_script, write_change};
 use std::alloc::{AllocError, Global};
 use std::io::Write;
 
+/// Which rows of a difference are asked for.
+#[derive(Clone, Copy, Debug, PartialEq, Eq)]
+pub struct AskedChanges {
+    /// Which rows of rights, where not all are.
+    pub only: Option<Only>,
+    /// Whether the rows of locks are too.
+    pub has_locks: bool,
+}
+
 /// Writes a row for each of the longest ranges of bytes where the two register files differ in what they let the modes
 /// do, whoever owns the bytes, and answers how many rows these are. The old file is that after the publications of the
 /// script `old` that are done at `old_after`, or after all of them where that is none; the new one the same of `new`.
-/// With `only`, rows that only gain, or only lose, are left out.
+/// If only more is asked for, or only less, other rows of rights are left out. If locks are asked for, a row follows for
+/// each of the longest ranges where the files differ in how they lock.
 ///
 /// The old script's fault comes first. The text is whole before its first byte is written, so every refusal but
 /// `Output` leaves the output untouched.
@@ -30,19 +41,19 @@ pub fn diff<W: Write>(
     old_after: Option<When>,
     new: &[u8],
     new_after: Option<When>,
-    only: Option<Only>,
+    asked: AskedChanges,
     writer: &mut W,
 ) -> Result<u64, AuditFault>
     ensures ok { IfOk result
-        (IsWritten (DiffSays old.now old_after new.now new_after only)
+        (IsWritten (DiffSays old.now old_after new.now new_after asked)
         (W.contents writer.old) (W.contents writer.new)) }
     ensures err { IfErr result
-        (IsRefused (DiffSays old.now old_after new.now new_after only) (W.contents writer.old) (W.contents writer.new)
+        (IsRefused (DiffSays old.now old_after new.now new_after asked) (W.contents writer.old) (W.contents writer.new)
         (DiffRefuses old.now old_after new.now new_after)) }
 {
     let mut text = Vec::new(alloc);
     let mut log = GrowingLog::new(alloc);
-    let rows = append_diff(&mut log, old, old_after, new, new_after, only, &mut text);
+    let rows = append_diff(&mut log, old, old_after, new, new_after, asked, &mut text);
     write_answer(writer, &text, rows)
 }
 
@@ -54,38 +65,76 @@ pub fn append_diff<L: EventLog, S: Sink>(
     old_after: Option<When>,
     new: &[u8],
     new_after: Option<When>,
-    only: Option<Only>,
+    asked: AskedChanges,
     out: &mut S,
 ) -> Result<u64, AuditFault>
     ensures ok { IfOk result
-        (IsAppended (DiffSays old.now old_after new.now new_after only) (S.text out.old) (S.text out.new)) }
+        (IsAppended (DiffSays old.now old_after new.now new_after asked) (S.text out.old) (S.text out.new)) }
     ensures err { IfErr result (Declines (DiffRefuses old.now old_after new.now new_after)) }
     ensures kept { OnErr result (S.text out.new ≡ S.text out.old) }
 {
     let old_file = file_after(log, old, old_after).map_err(|fault| fault.on_side(Side::Old))?;
     let new_file = file_after(log, new, new_after).map_err(|fault| fault.on_side(Side::New))?;
     let before = out.position();
-    let rows = write_differences(out, &old_file.registers(), &new_file.registers(), only);
+    let rows = write_rows(out, &old_file.registers(), &new_file.registers(), asked);
     if rows.is_err() {
         out.go_back(before);
     }
     Ok(rows?)
 }
 
-/// Appends a row for each of the longest ranges where the files differ as is asked, and answers how many these are.
+/// Appends the rows that are asked for, and answers how many these are.
+#[tactic(auto, using(crate::proofs::Differences::both_written))]
+fn write_rows<S: Sink>(
+    out: &mut S,
+    old: &Registers<'_>,
+    new: &Registers<'_>,
+    asked: AskedChanges,
+) -> Result<u64, AllocError>
+    ensures ok { IfOk result (IsAppended (FilesSay old.now new.now asked) (S.text out.old) (S.text out.new)) }
+    ensures err { OnErr result (HasGrown (S.text out.old) (S.text out.new)) }
+{
+    let rights = write_differences(out, Aspect::Rights, old, new, asked.only)?;
+    let locks = write_locks(out, old, new, asked)?;
+    Ok(rights + locks)
+}
+
+/// Appends the rows of locks, if they are asked for, and answers how many these are.
+fn write_locks<S: Sink>(
+    out: &mut S,
+    old: &Registers<'_>,
+    new: &Registers<'_>,
+    asked: AskedChanges,
+) -> Result<u64, AllocError>
+    ensures ok { IfOk result
+        (IsAppended (LocksSay old.now new.now asked.only asked.has_locks) (S.text out.old) (S.text out.new)) }
+    ensures few { IfOk result (λ rows. rows ≤ ADDRESS_LIMIT) }
+    ensures err { OnErr result (HasGrown (S.text out.old) (S.text out.new)) }
+{
+    if asked.has_locks {
+        write_differences(out, Aspect::Locks, old, new, asked.only)
+    } else {
+        Ok(0)
+    }
+}
+
+/// Appends a row for each of the longest ranges where the files differ by this aspect as is asked, and answers how many
+/// these are.
 fn write_differences<S: Sink>(
     out: &mut S,
+    aspect: Aspect,
     old: &Registers<'_>,
     new: &Registers<'_>,
     only: Option<Only>,
 ) -> Result<u64, AllocError>
-    ensures ok { IfOk result (IsAppended (ChangesSay old.now new.now only) (S.text out.old) (S.text out.new)) }
+    ensures ok { IfOk result (IsAppended (ChangesSay aspect old.now new.now only) (S.text out.old) (S.text out.new)) }
+    ensures few { IfOk result (λ rows. rows ≤ ADDRESS_LIMIT) }
     ensures err { OnErr result (HasGrown (S.text out.old) (S.text out.new)) }
 {
     let mut rows = 0;
     let mut first = 0;
     while first < ADDRESS_LIMIT {
-        let run = rights_run_from(old, new, first);
+        let run = compared_run_from(aspect, old, new, first);
         if write_change(out, &run, only)? {
             rows += 1;
         }

@@ -1,6 +1,6 @@
 use Rattle.std.proofs.Common.{rules}
 use Rattle.std.proofs.lemmas.Result.{IfOk-from_err}
-use Rattle.pmp_audit.proofs.rights_diff.append_diff.Goals as goal
+use Rattle.pmp_audit.proofs.script_diff.append_diff.Goals as goal
 
 pub returns-in_err-old_file-clause-ok : goal.returns-in_err-old_file-clause-ok
 returns-in_err-old_file-clause-ok g c = IfOk-from_err _ _ c.from_residual.ensures.0

@@ -1,8 +1,10 @@
 -- What is said of two scripts' register files, and when that is refused.
-use Rattle.std.specs.Prelude.{◌≡◌, ℕ, ◌≤◌, List, length, Option, Ok}
+use Rattle.std.specs.Prelude.{◌≡◌, ℕ, ◌+◌, ◌≤◌, Bool, true, false, List, [], ◌++◌, length, Option, Ok}
 use Rattle.pmp_core.specs.RegisterFile.{RegisterFile}
-use Rattle.pmp_map.specs.declared.rights_run.RightsRun.{RightsRun}
-use Rattle.pmp_map.specs.RightsRuns.{AreRightsRuns}
+use Rattle.pmp_map.specs.declared.compared.Aspect.{Aspect}
+use Rattle.pmp_map.specs.declared.compared.Aspect.TheVariants.{Rights, Locks}
+use Rattle.pmp_map.specs.declared.compared_run.ComparedRun.{ComparedRun}
+use Rattle.pmp_map.specs.ComparedRuns.{AreComparedRuns}
 use Rattle.pmp_text.specs.declared.lines.changes.Only.{Only}
 use Rattle.pmp_text.specs.declared.moments.When.{When}
 use Rattle.pmp_text.specs.Changes.{change_count, change_rows}
@@ -12,6 +14,7 @@ use Rattle.pmp_text.specs.Scripts.{script_meaning}
 use Rattle.pmp_audit.specs.declared.fault.AuditFault.{AuditFault}
 use Rattle.pmp_audit.specs.declared.fault.AuditFault.TheVariants.{Script, BadAfter, NoMoment, ScriptOf, BadAfterOf, NoMomentOf}
 use Rattle.pmp_audit.specs.declared.fault.Side.TheVariants.{Old, New}
+use Rattle.pmp_audit.specs.declared.script_diff.AskedChanges.{AskedChanges}
 use Rattle.pmp_audit.specs.AskedFile.{FileRefuses, IsAsked}
 
 -- the script means this, no more publications are asked for than it has, and so many of them give the file
@@ -23,21 +26,39 @@ pub record GivesFile (script : List ℕ) (after : Option When) (file : RegisterF
   pub within : done ≤ length contents.batches
   pub file_is : file ≡ file_of_script contents done
 
--- the text has a row for each of the longest ranges of bytes where the files differ as is asked, and they are counted
-pub record ChangesSay (old new : RegisterFile) (only : Option Only) (rows : ℕ) (text : List ℕ) : Type 0 where
-  pub runs : List RightsRun
-  pub runs_are : AreRightsRuns old new runs
+-- the text has a row for each of the longest ranges of bytes where the files differ by this aspect as is asked, and they
+-- are counted
+pub record ChangesSay (aspect : Aspect) (old new : RegisterFile) (only : Option Only) (rows : ℕ) (text : List ℕ)
+    : Type 0 where
+  pub runs : List ComparedRun
+  pub runs_are : AreComparedRuns aspect old new runs
   pub text_is : text ≡ change_rows only runs
   pub counted : rows ≡ change_count only runs
 
+-- the rows of locks, or none where they aren't asked for
+abbrev pub LocksSay : (old new : RegisterFile) → Option Only → (has_locks : Bool) → (rows : ℕ) → (text : List ℕ) → Type 0
+LocksSay old new only true rows text = ChangesSay Locks old new only rows text
+LocksSay old new only false rows text = (rows ≡ 0) × (text ≡ [])
+
+-- the rows of rights, and behind them those of locks
+pub record FilesSay (old new : RegisterFile) (asked : AskedChanges) (rows : ℕ) (text : List ℕ) : Type 0 where
+  pub rights_rows : ℕ
+  pub rights_text : List ℕ
+  pub rights : ChangesSay Rights old new asked.only rights_rows rights_text
+  pub locks_rows : ℕ
+  pub locks_text : List ℕ
+  pub locks : LocksSay old new asked.only asked.has_locks locks_rows locks_text
+  pub text_is : text ≡ rights_text ++ locks_text
+  pub counted : rows ≡ rights_rows + locks_rows
+
 -- both scripts give a file, and the text says where these differ as is asked
-pub record DiffSays (old : List ℕ) (old_after : Option When) (new : List ℕ) (new_after : Option When) (only : Option Only)
-    (rows : ℕ) (text : List ℕ) : Type 0 where
+pub record DiffSays (old : List ℕ) (old_after : Option When) (new : List ℕ) (new_after : Option When)
+    (asked : AskedChanges) (rows : ℕ) (text : List ℕ) : Type 0 where
   pub old_file : RegisterFile
   pub new_file : RegisterFile
   pub old_gives : GivesFile old old_after old_file
   pub new_gives : GivesFile new new_after new_file
-  pub changes : ChangesSay old_file new_file only rows text
+  pub changes : FilesSay old_file new_file asked rows text
 
 -- the new script is refused as any is, where the old one gives a file
 abbrev pub NewRefuses : (old : List ℕ) → (old_after : Option When) → (new : List ℕ) → (new_after : Option When)
