@@ -1,5 +1,5 @@
 -- Rows of a difference, range by range.
-use Rattle.std.proofs.Common.{◌≡◌, ℕ, ◌+◌, ◌≤◌, true, false, cond, List, [], ◌∷◌, ◌++◌, Option, refl, sym, ap, ◌∙◌}
+use Rattle.std.proofs.Common.{◌≡◌, ℕ, ◌+◌, ◌≤◌, Bool, true, false, cond, List, [], ◌∷◌, ◌++◌, Option, refl, sym, ap, ◌∙◌}
 use Rattle.std.proofs.Common.{append-nil, append_assoc, arith}
 use Rattle.std.proofs.lemmas.List.Concat.{flat_map-append}
 use Rattle.std.proofs.lemmas.List.Sums.{sum_by-append}
@@ -77,6 +77,15 @@ module _ (aspect : Aspect) (old new : RegisterFile) (only : Option Only) (before
     };
     appended = so_far.text;
   }
+
+-- no rows of locks are asked for
+pub none_asked : (old new : RegisterFile) (only : Option Only) (has_locks : Bool) (before : List ℕ) → has_locks ≡ false
+    → IsAppended (LocksSay old new only has_locks) before before 0
+none_asked old new only has_locks before is = rw is (record {
+  text = [];
+  says = (refl, refl);
+  appended = sym (append-nil before);
+})
 
 -- the rows of rights were appended, and behind them those of locks
 pub both_written : (old new : RegisterFile) (asked : AskedChanges) (before between after : List ℕ) (rights locks : ℕ)

@@ -100,6 +100,7 @@ fn write_rows<S: Sink>(
 }
 
 /// Appends the rows of locks, if they are asked for, and answers how many these are.
+#[tactic(auto, using(crate::proofs::Differences::none_asked))]
 fn write_locks<S: Sink>(
     out: &mut S,
     old: &Registers<'_>,

@@ -89,8 +89,8 @@ dot. Each line of the answer begins with that name and a comma, and all is well
 where it is on each hart.
 
 `pmp harts` compares each hart of a folder with the first one, and writes the
-rows of `diff` where they differ, each behind the name of the other hart. Where
-all are alike it writes nothing.
+rows of `diff` where they differ, each behind the name of the other hart, with
+`--locks` those of locks too. Where all are alike it writes nothing.
 
 A number is 1 to 20 decimal digits, or `0x` and 1 to 16 hexadecimal digits, and
 is below 2^64. Without `0x` it is decimal, whatever its digits.
@@ -794,8 +794,18 @@ the modes do, whoever owns the bytes, from the lowest address on.
           rights have all of the new ones, else both
 
 With `--only more` no row says `less`, and with `--only less` no row says
-`more`; rows that say `both` stay. The two states alone are compared: neither
-what was open before them, nor how entries are locked.
+`more`; rows that say `both` stay. The two states alone are compared, and not
+what was open before them.
+
+With `--locks` rows `FIRST,LAST,LOCKOLD,LOCKNEW` stand behind these, also from
+the lowest address on: one for each of the longest ranges of bytes whose lock by
+the new script is another than by the old. `--only` leaves none of them out.
+  held      its owner and all entries before it are frozen, or where no entry
+            owns it, all entries are
+  frozen    its owner is frozen, and an entry before that one isn't
+  bypassed  its owner's lock bit is set while RLB is 1
+  -         its owner's lock bit is clear, or no entry owns it and some entry
+            isn't frozen
 
 With `--names FILE`, `policy`, `map`, `entries`, `lint`, `diff` and `harts`
 write behind each row a comma and the names that the bytes from FIRST to LAST
@@ -823,6 +833,11 @@ Example:
   echo 'pmp 1' | pmp diff stdin new.pmp
   It answers 00000000000000,00000000000007,rwx,---,rwx,rw-,more
 
+Example of the difference rows:
+  printf 'pmp 1\\nwrite pmpcfg0 0x9b\\npublish\\n' > locked.pmp
+  echo 'pmp 1' | pmp diff stdin locked.pmp --locks
+  It answers 00000000000000,00000000000007,rwx,---,rw-,rw-,both
+
 docs/FORMATS.md describes all of it byte by byte, and has every refusal by its
 number.";
 
@@ -837,8 +852,8 @@ dot. Each line of the answer begins with that name and a comma, and all is well
 where it is on each hart.
 
 `pmp harts` compares each hart of a folder with the first one, and writes the
-rows of `diff` where they differ, each behind the name of the other hart. Where
-all are alike it writes nothing.
+rows of `diff` where they differ, each behind the name of the other hart, with
+`--locks` those of locks too. Where all are alike it writes nothing.
 
 `pmp diff` writes `FIRST,LAST,MOLD,SUOLD,MNEW,SUNEW,CHANGE` for the longest
 ranges of bytes where the register files of two scripts differ in what they let
@@ -854,8 +869,18 @@ the modes do, whoever owns the bytes, from the lowest address on.
           rights have all of the new ones, else both
 
 With `--only more` no row says `less`, and with `--only less` no row says
-`more`; rows that say `both` stay. The two states alone are compared: neither
-what was open before them, nor how entries are locked.
+`more`; rows that say `both` stay. The two states alone are compared, and not
+what was open before them.
+
+With `--locks` rows `FIRST,LAST,LOCKOLD,LOCKNEW` stand behind these, also from
+the lowest address on: one for each of the longest ranges of bytes whose lock by
+the new script is another than by the old. `--only` leaves none of them out.
+  held      its owner and all entries before it are frozen, or where no entry
+            owns it, all entries are
+  frozen    its owner is frozen, and an entry before that one isn't
+  bypassed  its owner's lock bit is set while RLB is 1
+  -         its owner's lock bit is clear, or no entry owns it and some entry
+            isn't frozen
 
 With `--names FILE`, `policy`, `map`, `entries`, `lint`, `diff` and `harts`
 write behind each row a comma and the names that the bytes from FIRST to LAST
