@@ -1,5 +1,5 @@
 -- The scripts of all harts of a log, in a folder that is made for them.
-use Rattle.std.specs.Prelude.{◌≡◌, ◌+◌, ◌==◌, ℕ, List, [], ◌∷◌, ◌++◌, length, map, Option, Some, None, Ok}
+use Rattle.std.specs.Prelude.{◌≡◌, ◌+◌, ◌==◌, ◌<◌, ℕ, List, [], ◌∷◌, ◌++◌, length, map, Option, Some, None, Ok}
 use Rattle.std.specs.Prelude.{All, if◌then◌else◌, option_map}
 use Rattle.clap.specs.Words.{Text}
 use Rattle.pmp_import.specs.Imports.{Stops}
@@ -85,16 +85,19 @@ module _ (scripts traces : Inputs) (command : Command) (import : Import) where
     pub found : IsFound (traces import.log.now) import.format survey
     pub all : List HartScript
     pub are : AreOf (writers survey) all
+    pub some : 0 < length all
     pub in_folder : AreMade path all made
     pub is : outcome ≡ Imported (Scripts (length all))
 
-  -- why there is no folder: the log can't be read, has no hart, or one's import fails, or it can't be made
+  -- why there is no folder: the log can't be read, has no hart, or one's import fails, or all have one, and it can't be made
   pub data CantMake : Failure → Type 0 where
     unread_log : (failure : Failure) → IsUnfound (traces import.log.now) import.format failure → CantMake failure
     no_harts : (survey : Survey) → IsFound (traces import.log.now) import.format survey → writers survey ≡ []
         → CantMake (refused NoHart)
     one_fails : (failure : Failure) → OneFails failure → CantMake failure
-    unmade : (fault : Refusal) → CantBeMade fault → CantMake (refused fault)
+    unmade : (survey : Survey) → IsFound (traces import.log.now) import.format survey
+        → (all : List HartScript) → AreOf (writers survey) all → 0 < length all
+        → (fault : Refusal) → CantBeMade fault → CantMake (refused fault)
 
 -- the folder that a request makes
 abbrev pub new_folder : Request → Option (Import × Text)
