@@ -26,8 +26,8 @@ pub record GivesFile (script : List ℕ) (after : Option When) (file : RegisterF
   pub within : done ≤ length contents.batches
   pub file_is : file ≡ file_of_script contents done
 
--- the text has a row for each of the longest ranges of bytes where the files differ by this aspect as is asked, and they
--- are counted
+-- the text has a row for each of the longest ranges of bytes where the files differ by this aspect as is asked, and
+-- they are counted
 pub record ChangesSay (aspect : Aspect) (old new : RegisterFile) (only : Option Only) (rows : ℕ) (text : List ℕ)
     : Type 0 where
   pub runs : List ComparedRun

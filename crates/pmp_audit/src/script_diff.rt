@@ -29,8 +29,8 @@ pub struct AskedChanges {
 /// Writes a row for each of the longest ranges of bytes where the two register files differ in what they let the modes
 /// do, whoever owns the bytes, and answers how many rows these are. The old file is that after the publications of the
 /// script `old` that are done at `old_after`, or after all of them where that is none; the new one the same of `new`.
-/// If only more is asked for, or only less, other rows of rights are left out. If locks are asked for, a row follows for
-/// each of the longest ranges where the files differ in how they lock.
+/// If only more is asked for, or only less, other rows of rights are left out. If locks are asked for, a row follows
+/// for each of the longest ranges where the files differ in how they lock.
 ///
 /// The old script's fault comes first. The text is whole before its first byte is written, so every refusal but
 /// `Output` leaves the output untouched.
