@@ -89,7 +89,7 @@ module _ (scripts traces : Inputs) (command : Command) (import : Import) where
     pub in_folder : AreMade path all made
     pub is : outcome ≡ Imported (Scripts (length all))
 
-  -- why there is no folder: the log can't be read, has no hart, or one's import fails, or all have one, and it can't be made
+  -- why there is no folder: the log can't be read or has no hart, one's import fails, or all have one and it can't be made
   pub data CantMake : Failure → Type 0 where
     unread_log : (failure : Failure) → IsUnfound (traces import.log.now) import.format failure → CantMake failure
     no_harts : (survey : Survey) → IsFound (traces import.log.now) import.format survey → writers survey ≡ []

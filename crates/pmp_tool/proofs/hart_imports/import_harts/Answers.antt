@@ -26,4 +26,7 @@ pub returns-in_err-make_folder-clause-err : goal.returns-in_err-make_folder-clau
 returns-in_err-make_folder-clause-err g c =
     let exit = c.from_residual-in_err-make_folder in
     let p = err_from_is_err_and exit.result exit.ensures.1 in
-    rw (p.1, p.2) (unmade c.in_err-make_folder.field-0.0 c.in_err-make_folder.ensures.unmade)
+    let survey = c.in_ok-survey.ensures in
+    rw (p.1, p.2) (unmade c.in_ok-survey.survey survey.ok c.in_ok-all.all.items
+    (rw (survey.scripts, survey.traces) at c.in_ok-all.ensures.ok) (search rules)
+    c.in_err-make_folder.field-0.0 c.in_err-make_folder.ensures.unmade)
