@@ -1,1 +1,3 @@
 pub mod Giving
+pub mod Rules
+pub mod NoRows

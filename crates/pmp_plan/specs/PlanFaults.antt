@@ -1,14 +1,20 @@
 -- Why a plan is refused.
 use Rattle.std.specs.Prelude.{◌≡◌, ◌⊎◌, ℕ, ◌+◌, ◌*◌, ◌/◌, ◌^◌, ◌<◌, ◌≤◌, ◌==◌, Bool, true, false, not, List, Some}
-use Rattle.std.specs.Prelude.{slice_get}
+use Rattle.std.specs.Prelude.{◌≢◌, ⊤, All, length, slice_get}
+use Rattle.std.specs.List.{AllPairs}
+use Rattle.pmp_core.specs.declared.event.Event.{Event}
 use Rattle.pmp_core.specs.declared.hart.Profile.{Profile}
+use Rattle.pmp_core.specs.declared.size.TheConstants.{MAX_ENTRIES}
 use Rattle.pmp_core.specs.Hart.{word_addresses}
+use Rattle.pmp_core.specs.Histories.{replay}
 use Rattle.pmp_text.specs.declared.refusal.Refusal.{Refusal}
 use Rattle.pmp_text.specs.declared.refusal.Refusal.TheVariants as refusal
 use Rattle.pmp_plan.specs.declared.fault.PlanFault.{PlanFault}
 use Rattle.pmp_plan.specs.declared.fault.PlanFault.TheVariants as fault
 use Rattle.pmp_plan.specs.declared.plan_row.PlanRow.{PlanRow}
-use Rattle.pmp_plan.specs.Plans.{is_in}
+use Rattle.pmp_plan.specs.declared.security.Security.{Security}
+use Rattle.pmp_plan.specs.PlanRules.{HasRule}
+use Rattle.pmp_plan.specs.Plans.{MeetsPlan, is_in, no_security}
 
 abbrev pub refusal_of : PlanFault → Refusal
 refusal_of (fault.Overlap row other) = refusal.Overlap
@@ -16,7 +22,7 @@ refusal_of (fault.TooFine row field) = refusal.TooFine
 refusal_of (fault.PastEnd row) = refusal.PastEnd
 refusal_of (fault.BadPair row) = refusal.BadPair
 refusal_of fault.NotHeld = refusal.NotHeld
-refusal_of (fault.FewEntries found) = refusal.FewEntries
+refusal_of (fault.FewEntries found row takes) = refusal.FewEntries
 refusal_of fault.Stopped = refusal.Stopped
 refusal_of fault.Memory = refusal.Memory
 
@@ -53,14 +59,38 @@ IsFlawOf hart index row (fault.TooFine number field) = (number ≡ index) × IsI
 IsFlawOf hart index row (fault.PastEnd number) = (number ≡ index) × (word_addresses hart ≤ row.last / 4)
 IsFlawOf hart index row _ = ⊥
 
--- a fault of the rows is there; the hart has no mseccfg, or fewer entries than were found. The others say nothing of
--- what there is
-abbrev pub Refuses : Profile → List PlanRow → PlanFault → Type 0
-Refuses hart rows (fault.Overlap row other) = AreOverlapping rows row other
-Refuses hart rows (fault.TooFine number field) =
+-- the row begins and ends where grains of the hart do, below the end of its addresses
+pub record IsFit (hart : Profile) (row : PlanRow) : Type 0 where
+  pub first : is_inside hart row.first ≡ false
+  pub last : is_inside hart (row.last + 1) ≡ false
+  pub below : row.last / 4 < word_addresses hart
+
+-- nothing is wrong with the plan by itself: no two rows have a byte in common, each is fit for the hart, and an entry can
+-- have its rights; and the hart has a bit of mseccfg where one is asked for
+pub record IsSound (hart : Profile) (security : Security) (rows : List PlanRow) : Type 0 where
+  pub apart : AllPairs AreApart rows
+  pub fit : All (IsFit hart) rows
+  pub kept : hart.has_smepmp ≡ false → security ≡ no_security
+  pub ruled : All (λ row. HasRule security row.demand) rows
+
+-- writes to the hart, which was reset, leave registers that meet the plan
+abbrev pub CanMeet : Profile → Security → List PlanRow → Type 0
+CanMeet hart security rows = (writes : List Event) × MeetsPlan hart security rows (replay hart writes)
+
+-- a fault of the rows is there; no rule gives what a row asks; the hart has no mseccfg, of which a bit is asked for; a
+-- sound plan takes more entries than the hart has, and as many do, where a hart can have so many; or the entries for a
+-- sound plan with rows weren't found. That memory ran out says nothing of the plan
+abbrev pub Refuses : Profile → Security → List PlanRow → PlanFault → Type 0
+Refuses hart security rows (fault.Overlap row other) = AreOverlapping rows row other
+Refuses hart security rows (fault.TooFine number field) =
     (row : PlanRow) × (slice_get rows number ≡ Some row) × IsInside hart row field
-Refuses hart rows (fault.PastEnd number) =
+Refuses hart security rows (fault.PastEnd number) =
     (row : PlanRow) × (slice_get rows number ≡ Some row) × (word_addresses hart ≤ row.last / 4)
-Refuses hart rows fault.NotHeld = hart.has_smepmp ≡ false
-Refuses hart rows (fault.FewEntries found) = hart.entries < found
-Refuses hart rows _ = Unit {0}
+Refuses hart security rows (fault.BadPair number) =
+    (row : PlanRow) × (slice_get rows number ≡ Some row) × ¬ (HasRule security row.demand)
+Refuses hart security rows fault.NotHeld = (hart.has_smepmp ≡ false) × (security ≢ no_security)
+Refuses hart security rows (fault.FewEntries found row takes) =
+    IsSound hart security rows × (hart.entries < found)
+    × (found ≤ MAX_ENTRIES → CanMeet (record hart { entries = found }) security rows)
+Refuses hart security rows fault.Stopped = IsSound hart security rows × (0 < length rows)
+Refuses hart security rows fault.Memory = ⊤

@@ -38,6 +38,10 @@ rest_rights security = record {
   others = perms_of nothing;
 }
 
+-- none of the bits
+abbrev pub no_security : Security
+no_security = record { mml = false; mmwp = false; rlb = false }
+
 -- its bits of mseccfg (Smepmp)
 abbrev pub security_value : Security → ℕ
 security_value security =

@@ -1,84 +1,80 @@
 //! The rules that give a byte what a plan asks.
 
+ghost use Rattle.std.specs.Prelude.{◌≡◌, IsTrue, false};
+ghost use Rattle.pmp_core.specs.Configuration.{configuration_of, is_reserved};
+ghost use Rattle.pmp_plan.specs.PlanRules.{HasRule, IsRuleFor, rule_pair};
+ghost use Rattle.pmp_plan.specs.StoredRules.{stored_rule};
+
 use crate::plan_row::Demand;
 use crate::security::Security;
-use pmp_core::{Csr, Event, Hart, RegFile};
+use pmp_core::{Hart, Registers, SavedRegisters, Size};
 use pmp_map::ModeRights;
-
-/// How many combinations L, R, W and X have.
-const RULES: usize = 16;
 
 /// L of a configuration byte.
 pub const LOCK: u8 = 128;
 
-/// The rules that L, R, W and X of a configuration byte make: what each gives the modes, or none where it is reserved.
-#[derive(Clone, Copy)]
-pub struct Rules {
-    rights: [Option<ModeRights>; RULES],
-    can_hold: bool,
+/// The configuration bytes of all rules, OFF: without L and with it, each of R, W and X.
+const RULES: [u8; 16] = [
+    0, 1, 2, 3, 4, 5, 6, 7, 128, 129, 130, 131, 132, 133, 134, 135,
+];
+
+/// What an entry gives by this byte, as it is stored.
+fn rights_by(security: Security, byte: u8) -> ModeRights
+    ensures { result ≡ rule_pair security (stored_rule security byte) }
+{
+    let mut saved = SavedRegisters::reset_on(Hart::of(Size::Sixteen));
+    saved.mseccfg = security.value();
+    saved.configurations[0] = byte;
+    ModeRights::of_owner(&Registers::of(&saved), Some(0))
 }
 
-/// The configuration byte of the rule in this place, OFF.
-fn rule_byte(place: usize) -> u8 {
-    let rights = (place % 8) as u8;
-    if place < 8 { rights } else { LOCK + rights }
+/// W without R.
+fn is_reserved(byte: u8) -> bool
+    ensures { result ≡ is_reserved (configuration_of byte) }
+{
+    byte / 2 % 2 == 1 && byte % 2 != 1
 }
 
-/// What entry 0 gives by this byte, as the hart itself keeps and reads it.
-fn rights_by(hart: Hart, security: Security, byte: u8) -> Option<ModeRights> {
-    let bypassed = Security {
-        rlb: true,
-        ..security
-    };
-    let mut file = RegFile::reset_on(hart);
-    file.step(Event::Write(Csr::Mseccfg, bypassed.value()));
-    file.step(Event::Write(Csr::Cfg(0), u64::from(byte)));
-    if file.entries() == 0 || file.read(Csr::Cfg(0)) != u64::from(byte) {
-        return None;
-    }
-    Some(ModeRights::of_owner(&file.registers(), Some(0)))
+/// Whether a rule gives what is asked.
+fn is_rule_for(security: Security, demand: Demand, byte: u8) -> bool
+    ensures yes { IsTrue result → IsRuleFor security demand (configuration_of byte) }
+    ensures no { IsRuleFor security demand (configuration_of byte) → IsTrue result }
+{
+    let is_legal = security.mml || !is_reserved(byte);
+    let is_held = byte / LOCK == 1 && !security.rlb;
+    is_legal && rights_by(security, byte) == demand.rights && (is_held || !demand.is_locked)
 }
 
-impl Rules {
-    /// Those of a hart, where `mseccfg` is so.
-    pub fn of(hart: Hart, security: Security) -> Rules {
-        let mut rights = [None; RULES];
-        for place in 0..RULES {
-            rights[place] = rights_by(hart, security, rule_byte(place));
-        }
-        Rules {
-            rights,
-            can_hold: !security.rlb,
+/// Whether some rule does.
+pub fn has_rule(security: Security, demand: Demand) -> bool
+    ensures yes { IsTrue result → HasRule security demand }
+    ensures no { result ≡ false → ¬ (HasRule security demand) }
+{
+    for byte in RULES {
+        if is_rule_for(security, demand, byte) {
+            return true;
         }
     }
+    false
+}
 
-    fn is_choice(&self, place: usize, demand: Demand) -> bool {
-        match self.rights.get(place) {
-            Some(rights) if *rights == Some(demand.rights) => {
-                !demand.is_locked || self.can_hold && place >= 8
-            }
-            _ => false,
-        }
-    }
-
-    /// The first rule and the last that give what is asked: there are no others.
-    pub fn choices(&self, demand: Demand) -> [Option<u8>; 2] {
-        let mut first = None;
-        let mut last = None;
-        for place in 0..RULES {
-            if self.is_choice(place, demand) {
-                if first.is_none() {
-                    first = Some(rule_byte(place));
-                } else {
-                    last = Some(rule_byte(place));
-                }
+/// The first rule and the last that give what is asked: there are no others.
+pub fn choices(security: Security, demand: Demand) -> [Option<u8>; 2] {
+    let mut first = None;
+    let mut last = None;
+    for byte in RULES {
+        if is_rule_for(security, demand, byte) {
+            if first.is_none() {
+                first = Some(byte);
+            } else {
+                last = Some(byte);
             }
         }
-        [first, last]
     }
+    [first, last]
+}
 
-    /// Whether entries with this rule hold what they own.
-    pub fn holds(&self, rule: u8) -> bool {
-        self.can_hold && rule >= LOCK
-    }
+/// Whether entries with this rule hold what they own.
+pub fn holds(security: Security, rule: u8) -> bool {
+    rule / LOCK == 1 && !security.rlb
 }

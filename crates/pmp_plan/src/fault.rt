@@ -11,17 +11,32 @@ use std::alloc::AllocError;
 #[derive(Clone, Copy, Debug, PartialEq, Eq)]
 pub enum PlanFault {
     /// These two rows have a byte in common.
-    Overlap { row: usize, other: usize },
+    Overlap {
+        row: usize,
+        other: usize,
+    },
     /// A row whose field with this number, from 0, isn't at an end of a grain: the first byte or the last.
-    TooFine { row: usize, field: usize },
+    TooFine {
+        row: usize,
+        field: usize,
+    },
     /// A row that has bytes above the hart's addresses.
-    PastEnd { row: usize },
+    PastEnd {
+        row: usize,
+    },
     /// A row whose rights no entry gives on this hart with these bits of `mseccfg`, or none that can be held.
-    BadPair { row: usize },
+    BadPair {
+        row: usize,
+    },
     /// The hart keeps other bits of `mseccfg`: it is one without Smepmp.
     NotHeld,
-    /// The fewest entries that were found are so many, and the hart hasn't as many.
-    FewEntries { found: usize },
+    /// The fewest entries that were found are so many, and the hart hasn't as many. Of the rows this one takes most of
+    /// them: so many were chosen for it.
+    FewEntries {
+        found: usize,
+        row: usize,
+        takes: usize,
+    },
     /// No entries were found within the bound of the search. There may be some.
     Stopped,
     Memory,

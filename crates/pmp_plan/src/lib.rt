@@ -4,6 +4,7 @@
 //! plan. The definitions that the contracts cite are in `specs/`.
 #![tactic(auto)]
 
+mod answer;
 mod array;
 mod choices;
 mod cost;
@@ -12,6 +13,7 @@ mod judge;
 mod level;
 mod moves;
 mod parts;
+mod plan_of;
 mod plan_row;
 mod planning;
 mod reading;
@@ -20,12 +22,15 @@ mod rows;
 mod script;
 mod search;
 mod security;
+mod soundness;
 mod state;
 mod writes;
 
+pub use answer::{AnswerFault, Form, write_plan};
 pub use array::append_array;
 pub use fault::PlanFault;
 pub use judge::meets;
+pub use plan_of::write_plan_of;
 pub use plan_row::{Demand, PlanRow};
 pub use planning::{Planned, plan};
 pub use reading::read_plan;

@@ -1,6 +1,6 @@
 //! The entries that may come next.
 
-use crate::choices::LOCK;
+use crate::choices::{LOCK, holds};
 use crate::level::Level;
 use crate::parts::{PARTS, Parts};
 use crate::state::{Chosen, State};
@@ -26,6 +26,7 @@ pub struct Next<'a> {
 /// An entry for what is left of a part: its rule, and where it may match.
 #[derive(Clone, Copy)]
 struct Candidate {
+    part: usize,
     rule: u8,
     /// Whether it and all entries before it are frozen.
     is_frozen: bool,
@@ -35,43 +36,39 @@ struct Candidate {
     room: ByteRange,
 }
 
-/// A naturally aligned block.
-fn block_entry(rule: u8, block: ByteRange) -> Chosen {
-    let size = block.end.saturating_sub(block.start);
-    let address = block.start / 4;
-    if size <= 4 {
-        return Chosen {
-            configuration: rule | NA4,
-            address,
-        };
-    }
-    Chosen {
-        configuration: rule | NAPOT,
-        address: address | (size / 8).saturating_sub(1),
-    }
-}
-
-fn top_entry(rule: u8, end: u64) -> Chosen {
-    Chosen {
-        configuration: rule | TOR,
-        address: end / 4,
-    }
-}
-
-/// An entry whose address another begins its range at.
-fn low_entry(rule: u8, start: u64) -> Chosen {
-    Chosen {
-        configuration: rule & LOCK,
-        address: start / 4,
-    }
-}
-
 impl Candidate {
+    fn entry(&self, configuration: u8, address: u64) -> Chosen {
+        Chosen {
+            configuration,
+            address,
+            part: self.part,
+        }
+    }
+
+    /// A naturally aligned block.
+    fn block_entry(&self, block: ByteRange) -> Chosen {
+        let size = block.end.saturating_sub(block.start);
+        let address = block.start / 4;
+        if size <= 4 {
+            return self.entry(self.rule | NA4, address);
+        }
+        self.entry(self.rule | NAPOT, address | (size / 8).saturating_sub(1))
+    }
+
+    fn top_entry(&self, end: u64) -> Chosen {
+        self.entry(self.rule | TOR, end / 4)
+    }
+
+    /// An entry whose address another begins its range at.
+    fn low_entry(&self) -> Chosen {
+        self.entry(self.rule & LOCK, self.first / 4)
+    }
+
     /// The largest block.
     fn take_block(&self, parts: &Parts, from: &State, next: &mut Level) -> Result<(), AllocError> {
         match parts.block_at(self.first, self.room) {
             Some(block) => {
-                let entry = block_entry(self.rule, block);
+                let entry = self.block_entry(block);
                 next.offer(from.behind(parts, entry, block, self.is_frozen))
             }
             None => Ok(()),
@@ -83,7 +80,7 @@ impl Candidate {
         let end = parts.top_at(self.room.end);
         match from.chain {
             Some(start) if self.room.start <= start && start <= self.first && self.first < end => {
-                let entry = top_entry(self.rule, end);
+                let entry = self.top_entry(end);
                 next.offer(from.behind(parts, entry, ByteRange { start, end }, self.is_frozen))
             }
             _ => Ok(()),
@@ -96,9 +93,9 @@ impl Candidate {
         if end <= start {
             return Ok(());
         }
-        let low = low_entry(self.rule, start);
+        let low = self.low_entry();
         let between = from.behind(parts, low, ByteRange::EMPTY, self.is_frozen);
-        let entry = top_entry(self.rule, end);
+        let entry = self.top_entry(end);
         next.offer(between.behind(parts, entry, ByteRange { start, end }, self.is_frozen))
     }
 }
@@ -107,11 +104,12 @@ impl Candidate {
 fn candidate_for(parts: &Parts, from: &State, index: usize, rule: u8) -> Option<Candidate> {
     let left = from.left_of(index)?;
     let part = parts.list.get(index)?;
-    let is_frozen = from.is_frozen && parts.rules.holds(rule);
+    let is_frozen = from.is_frozen && holds(parts.security, rule);
     if part.demand.is_locked && !is_frozen {
         return None;
     }
     Some(Candidate {
+        part: index,
         rule,
         is_frozen,
         first: left.start,

@@ -1,6 +1,6 @@
 //! The bytes of a plan, in parts of which one thing is asked.
 
-use crate::choices::Rules;
+use crate::choices::choices;
 use crate::plan_row::{Demand, PlanRow};
 use crate::rows::{row_at, unnamed_to};
 use crate::security::Security;
@@ -24,7 +24,7 @@ pub struct Part {
 #[derive(Clone, Copy)]
 pub struct Parts {
     pub hart: Hart,
-    pub rules: Rules,
+    pub security: Security,
     pub list: [Part; PARTS],
     pub count: usize,
 }
@@ -32,14 +32,13 @@ pub struct Parts {
 impl Parts {
     /// The parts of a plan, or none where there are too many.
     pub fn of(hart: Hart, security: Security, rows: &[PlanRow<'_>]) -> Option<Parts> {
-        let rules = Rules::of(hart, security);
         let rest = Demand {
             rights: security.rest(),
             is_locked: false,
         };
         let mut parts = Parts {
             hart,
-            rules,
+            security,
             list: [Part {
                 bytes: ByteRange::EMPTY,
                 demand: rest,
@@ -62,7 +61,7 @@ impl Parts {
     }
 
     fn push(&mut self, bytes: ByteRange, demand: Demand, is_needed: bool) -> Option<()> {
-        let choices = self.rules.choices(demand);
+        let choices = choices(self.security, demand);
         let part = self.list.get_mut(self.count)?;
         *part = Part {
             bytes,

@@ -1,23 +1,23 @@
 //! The registers of a plan.
 
-ghost use Rattle.std.specs.Prelude.{IfErr, IfOk};
-ghost use Rattle.std.specs.List.{AllPairs};
+ghost use Rattle.std.specs.Prelude.{◌≡◌, ◌<◌, ◌≤◌, [], ℕ, IfErr, IfOk, IfSome, IsTrue, false, length};
 ghost use Rattle.pmp_core.specs.Histories.{replay};
-ghost use Rattle.pmp_plan.specs.PlanFaults.{AreApart, Refuses};
-ghost use Rattle.pmp_plan.specs.Plans.{MeetsPlan};
+ghost use Rattle.pmp_core.specs.declared.size.TheConstants.{MAX_ENTRIES};
+ghost use Rattle.pmp_plan.specs.PlanFaults.{CanMeet, IsSound, Refuses};
+ghost use Rattle.pmp_plan.specs.NoRows.{security_writes};
+ghost use Rattle.pmp_plan.specs.Plans.{MeetsPlan, no_security};
 
-use crate::choices::Rules;
 use crate::fault::PlanFault;
 use crate::judge::meets;
 use crate::parts::Parts;
 use crate::plan_row::PlanRow;
-use crate::row_faults::check_rows;
 use crate::search::search;
 use crate::security::Security;
-use crate::state::State;
+use crate::soundness::check_plan;
+use crate::state::{Chosen, State};
 use crate::writes::{WRITES, writes_of};
 use arrayvec::ArrayVec;
-use pmp_core::{Event, Hart, RegFile};
+use pmp_core::{Csr, Event, Hart, MAX_ENTRIES, Profile, RegFile};
 use std::alloc::Global;
 
 /// Writes that leave registers which meet a plan, on a hart that was reset.
@@ -29,42 +29,121 @@ pub struct Planned {
     pub writes: ArrayVec<Event, WRITES>,
 }
 
-/// The first row that has no rule.
-fn unruled(hart: Hart, security: Security, rows: &[PlanRow<'_>]) -> Option<usize> {
-    let rules = Rules::of(hart, security);
-    for (index, row) in rows.iter().enumerate() {
-        if rules.choices(row.demand)[0].is_none() {
-            return Some(index);
-        }
+/// The writes for these entries, where they leave registers that meet the plan: they are run on a unit of the hart.
+fn judged(
+    hart: Hart,
+    security: Security,
+    rows: &[PlanRow<'_>],
+    entries: &[Chosen],
+) -> Option<Planned>
+    ensures met { IfSome result (λ planned. MeetsPlan hart security rows.now (replay hart planned.writes.items)) }
+    ensures hart { IfSome result (λ planned. planned.hart ≡ hart) }
+{
+    let writes = writes_of(hart, security, entries);
+    let mut file = RegFile::reset_on(hart);
+    file.run_events(&writes);
+    if !meets(&file, hart, security, rows) {
+        return None;
     }
-    None
+    Some(Planned {
+        hart,
+        entries: entries.len(),
+        writes,
+    })
 }
 
-/// Few entries for the rows.
+/// The same of a hart with so many entries.
+fn with_entries(hart: Hart, entries: u8) -> Option<Hart>
+    requires { entries ≤ MAX_ENTRIES }
+    ensures { IfSome result (λ wide. wide ≡ record hart { entries = entries }) }
+{
+    let profile = Profile {
+        entries,
+        ..hart.profile()
+    };
+    Hart::new(profile).ok()
+}
+
+/// Whether as many entries do, where a hart can have so many.
+fn is_enough(
+    hart: Hart,
+    security: Security,
+    rows: &[PlanRow<'_>],
+    entries: &[Chosen],
+    found: usize,
+) -> bool
+    ensures { IsTrue result → found ≤ MAX_ENTRIES → CanMeet (record hart { entries = found }) security rows.now }
+{
+    if found > MAX_ENTRIES {
+        return true;
+    }
+    match with_entries(hart, found as u8) {
+        Some(wide) => judged(wide, security, rows, entries).is_some(),
+        None => false,
+    }
+}
+
+/// Which of the rows takes most of the entries, and how many.
+fn costliest(parts: &Parts, state: &State, rows: &[PlanRow<'_>]) -> (usize, usize) {
+    let (mut costly, mut takes) = (0, 0);
+    for (index, row) in rows.iter().enumerate() {
+        let chosen = state.chosen_at(parts, row.first);
+        if chosen > takes {
+            (costly, takes) = (index, chosen);
+        }
+    }
+    (costly, takes)
+}
+
+/// The writes for a sound plan with rows.
 fn found(
     alloc: Global,
     hart: Hart,
     security: Security,
     rows: &[PlanRow<'_>],
-) -> Result<State, PlanFault>
-    ensures { IfErr result (Refuses hart rows.now) }
+) -> Result<Planned, PlanFault>
+    requires sound { IsSound hart security rows.now }
+    requires rows { 0 < length rows.now }
+    ensures met { IfOk result (λ planned. MeetsPlan hart security rows.now (replay hart planned.writes.items)) }
+    ensures hart { IfOk result (λ planned. planned.hart ≡ hart) }
+    ensures err { IfErr result (Refuses hart security rows.now) }
 {
-    if security != Security::default() && !hart.has_smepmp() {
-        return Err(PlanFault::NotHeld);
+    let parts = Parts::of(hart, security, rows).ok_or(PlanFault::Stopped)?;
+    let state = search(alloc, &parts)?.ok_or(PlanFault::Stopped)?;
+    let found = state.count.max(1);
+    if found <= usize::from(hart.entries()) {
+        return judged(hart, security, rows, state.entries()).ok_or(PlanFault::Stopped);
     }
-    if hart.entries() == 0 {
-        return Err(PlanFault::FewEntries { found: 1 });
-    }
-    if let Some(row) = unruled(hart, security, rows) {
-        return Err(PlanFault::BadPair { row });
-    }
-    let Some(parts) = Parts::of(hart, security, rows) else {
+    if !is_enough(hart, security, rows, state.entries(), found) {
         return Err(PlanFault::Stopped);
-    };
-    match search(alloc, &parts)? {
-        Some(state) if state.count <= usize::from(hart.entries()) => Ok(state),
-        Some(state) => Err(PlanFault::FewEntries { found: state.count }),
-        None => Err(PlanFault::Stopped),
+    }
+    let (row, takes) = costliest(&parts, &state, rows);
+    Err(PlanFault::FewEntries { found, row, takes })
+}
+
+/// `mseccfg`, where a bit of it is asked for.
+fn security_writes(security: Security) -> ArrayVec<Event, WRITES>
+    ensures { result.items ≡ security_writes security }
+{
+    let mut writes = ArrayVec::new();
+    let value = security.value();
+    if value > 0 {
+        writes.push(Event::Write(Csr::Mseccfg, value));
+    }
+    writes
+}
+
+/// The writes for a plan without rows.
+fn of_no_rows(hart: Hart, security: Security) -> Planned
+    requires kept { hart.has_smepmp ≡ false → security ≡ no_security }
+    ensures met { (count : ℕ) → 0 < count → let of = record hart { entries = count } in
+        MeetsPlan of security [] (replay of result.writes.items) }
+    ensures hart { result.hart ≡ hart }
+{
+    Planned {
+        hart,
+        entries: 0,
+        writes: security_writes(security),
     }
 }
 
@@ -73,8 +152,8 @@ fn found(
 ///
 /// What is written is run on a unit of the hart, and judged, before it is answered, so that the search can only refuse.
 /// The first of these is answered: two rows that have a byte in common; a row that begins or ends inside a grain, or
-/// has bytes above the hart's addresses; a bit of `mseccfg` that the hart doesn't keep; a hart without entries; a row
-/// whose rights no entry gives; more entries than there are; `Stopped`.
+/// has bytes above the hart's addresses; a bit of `mseccfg` that the hart doesn't keep; a row whose rights no entry
+/// gives; more entries than there are; `Stopped`, which a plan without rows never is.
 pub fn plan(
     alloc: Global,
     hart: Hart,
@@ -82,21 +161,21 @@ pub fn plan(
     rows: &[PlanRow<'_>],
 ) -> Result<Planned, PlanFault>
     ensures met { IfOk result (λ planned. MeetsPlan hart security rows.now (replay hart planned.writes.items)) }
-    ensures apart { IfOk result (λ planned. AllPairs AreApart rows.now) }
-    ensures err { IfErr result (Refuses hart rows.now) }
+    ensures hart { IfOk result (λ planned. planned.hart ≡ hart) }
+    ensures sound { IfOk result (λ planned. IsSound hart security rows.now) }
+    ensures err { IfErr result (Refuses hart security rows.now) }
 {
-    check_rows(hart, rows)?;
-    let state = found(alloc, hart, security, rows)?;
-    let entries = state.count;
-    let writes = writes_of(hart, security, state.entries());
-    let mut file = RegFile::reset_on(hart);
-    file.run_events(&writes);
-    if !meets(&file, hart, security, rows) {
-        return Err(PlanFault::Stopped);
+    check_plan(hart, security, rows)?;
+    if !rows.is_empty() {
+        return found(alloc, hart, security, rows);
     }
-    Ok(Planned {
-        hart,
-        entries,
-        writes,
-    })
+    let planned = of_no_rows(hart, security);
+    if hart.entries() == 0 {
+        return Err(PlanFault::FewEntries {
+            found: 1,
+            row: 0,
+            takes: 0,
+        });
+    }
+    Ok(planned)
 }

@@ -10,6 +10,9 @@ use crate::plan_row::PlanRow;
 use pmp_text::{Refusal, TraceFault, split_first_line};
 use std::alloc::{AllocError, Global};
 
+/// The first line of a plan.
+pub const HEADER: &[u8] = b"first,last,m,su,locked,name";
+
 fn no_header() -> TraceFault
     ensures { result ≡ no_header }
 {
@@ -27,9 +30,7 @@ pub fn read_plan<'a>(alloc: Global, text: &'a [u8]) -> Result<Vec<PlanRow<'a>>, 
     ensures err { IfErr result (λ fault. (fault ≡ no_memory_for_rows) ⊎ (plan_said text.now ≡ Err fault)) }
 {
     match split_first_line(text) {
-        Some((header, rows)) if header == b"first,last,m,su,locked,name".as_slice() => read_rows(
-            alloc, rows,
-        ),
+        Some((header, rows)) if header == HEADER => read_rows(alloc, rows),
         _ => Err(no_header()),
     }
 }

@@ -1,8 +1,9 @@
 //! What is wrong with the rows of a plan themselves.
 
-ghost use Rattle.std.specs.Prelude.{◌≡◌, IfErr, IfSome, IsTrue, MatchOption, OnOk, false};
+ghost use Rattle.std.specs.Prelude.{◌≡◌, All, IfErr, IsTrue, MatchOption, OnOk, false};
 ghost use Rattle.std.specs.List.{AllPairs};
-ghost use Rattle.pmp_plan.specs.PlanFaults.{AreApart, AreOverlapping, HaveCommonByte, IsFlawOf, Refuses, is_inside};
+ghost use Rattle.pmp_plan.specs.declared.security.Security.{Security};
+ghost use Rattle.pmp_plan.specs.PlanFaults.{AreApart, AreOverlapping, HaveCommonByte, IsFit, IsFlawOf, Refuses, is_inside};
 
 use crate::fault::PlanFault;
 use crate::plan_row::PlanRow;
@@ -40,7 +41,7 @@ fn is_inside(hart: Hart, byte: u64) -> bool
 
 /// What is wrong with a row by itself.
 fn flaw_of(hart: Hart, index: usize, row: &PlanRow<'_>) -> Option<PlanFault>
-    ensures { IfSome result (IsFlawOf hart index row.now) }
+    ensures { MatchOption result (IsFit hart row.now) (IsFlawOf hart index row.now) }
 {
     if is_inside(hart, row.first) {
         return Some(PlanFault::TooFine {
@@ -63,8 +64,9 @@ fn flaw_of(hart: Hart, index: usize, row: &PlanRow<'_>) -> Option<PlanFault>
 /// Whether the rows are those of a plan for the hart: no two have a byte in common, and each begins and ends where
 /// grains do, below the end of its addresses.
 pub fn check_rows(hart: Hart, rows: &[PlanRow<'_>]) -> Result<(), PlanFault>
-    ensures ok { OnOk result (AllPairs AreApart rows.now) }
-    ensures err { IfErr result (Refuses hart rows.now) }
+    ensures apart { OnOk result (AllPairs AreApart rows.now) }
+    ensures fit { OnOk result (All (IsFit hart) rows.now) }
+    ensures err { (security : Security) → IfErr result (Refuses hart security rows.now) }
 {
     if let Some((row, other)) = overlap(rows) {
         return Err(PlanFault::Overlap { row, other });

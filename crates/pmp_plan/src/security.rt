@@ -15,6 +15,12 @@ pub struct Security {
 }
 
 impl Security {
+    pub const NONE: Security = Security {
+        mml: false,
+        mmwp: false,
+        rlb: false,
+    };
+
     /// RLB alone.
     pub const BYPASS: Security = Security {
         mml: false,

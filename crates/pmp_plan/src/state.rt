@@ -7,11 +7,12 @@ use pmp_core::ByteRange;
 /// The most entries that are searched for: more than a hart has, to tell how many a plan takes.
 pub const FOUND: usize = 96;
 
-/// An entry: its configuration byte, and its word address.
+/// An entry: its configuration byte, its word address, and which of the parts it was chosen for.
 #[derive(Clone, Copy, PartialEq, Eq)]
 pub struct Chosen {
     pub configuration: u8,
     pub address: u64,
+    pub part: usize,
 }
 
 /// The first entries, and what they leave to those behind them.
@@ -44,6 +45,7 @@ impl State {
             entries: [Chosen {
                 configuration: 0,
                 address: 0,
+                part: 0,
             }; FOUND],
             count: 0,
         };
@@ -54,6 +56,18 @@ impl State {
     /// The entries, in their order.
     pub fn entries(&self) -> &[Chosen] {
         &self.entries[..self.count.min(FOUND)]
+    }
+
+    /// How many of the entries were chosen for the part that begins at this byte.
+    pub fn chosen_at(&self, parts: &Parts, byte: u64) -> usize {
+        let mut count = 0usize;
+        for entry in self.entries() {
+            match parts.list.get(entry.part) {
+                Some(part) if part.bytes.start == byte => count = count.saturating_add(1),
+                _ => {}
+            }
+        }
+        count
     }
 
     /// Whether the same is left, and the same can come next.

@@ -1,0 +1,104 @@
+-- mseccfg alone meets a plan without rows.
+use Rattle.std.proofs.Common.{◌≡◌, ◌≢◌, ap, arith, refl, sym, ℕ, zero, suc, ◌<◌, ◌∷◌, [], Bool, false, true, List, None}
+use Rattle.std.proofs.Common.{length, nat_eq, nat_lt, replicate}
+use Rattle.std.proofs.lemmas.Bool.{eqb-true, lt-ltb}
+use Rattle.std.proofs.lemmas.List.{length-replicate}
+use Rattle.pmp_core.specs.declared.csr.Csr.TheVariants.{Mseccfg}
+use Rattle.pmp_core.specs.declared.event.Event.TheVariants.{Write}
+use Rattle.pmp_core.specs.declared.hart.Profile.{Profile}
+use Rattle.pmp_core.specs.declared.mseccfg.MseccfgFields.{MseccfgFields}
+use Rattle.pmp_core.specs.Histories.{replay}
+use Rattle.pmp_core.specs.Matching.{Matches}
+use Rattle.pmp_core.specs.RegisterFile.{RegisterFile, file_of, reset_entry}
+use Rattle.pmp_core.specs.RegisterWrite.{is_any_locked}
+use Rattle.pmp_core.proofs.Legal.{reset_at}
+use Rattle.pmp_map.specs.RightsRuns.{HasRights}
+use Rattle.pmp_plan.specs.declared.plan_row.PlanRow.{PlanRow}
+use Rattle.pmp_plan.specs.declared.security.Security.{Security}
+use Rattle.pmp_plan.specs.NoRows.{security_writes}
+use Rattle.pmp_plan.specs.Plans.{MeetsPlan, no_security, rest_rights, security_value}
+
+-- the bits of mseccfg, as a file has them
+abbrev fields : Security → MseccfgFields
+fields security = record { mml = security.mml; mmwp = security.mmwp; rlb = security.rlb }
+
+abbrev bits : (mml mmwp rlb : Bool) → Security
+bits mml mmwp rlb = record { mml = mml; mmwp = mmwp; rlb = rlb }
+
+-- a hart with entries is one
+has_some : (n : ℕ) → 0 < n → nat_lt 0 n ≡ true
+has_some n some = lt-ltb 0 n some
+
+none_locked : (n : ℕ) → is_any_locked (replicate n reset_entry) ≡ false
+none_locked zero = refl
+none_locked (suc n) = none_locked n
+
+module _ (hart : Profile) (some : 0 < hart.entries) where
+  -- the hart with these bits, and each entry as reset leaves it
+  abbrev secured_file : Security → RegisterFile
+  secured_file security = file_of hart (fields security) (replicate hart.entries reset_entry)
+
+  matches_nothing : (security : Security) (byte i : ℕ) → Matches (secured_file security) i byte → ⊥
+  matches_nothing security byte i matches = rw (reset_at hart.entries i) at matches
+
+  given : (security : Security) (byte : ℕ) → HasRights (secured_file security) byte (rest_rights security)
+  given security byte = (
+    None,
+    λ i matches. matches_nothing security byte i matches,
+    rw (length-replicate hart.entries reset_entry, has_some hart.entries some) refl,
+  )
+
+  meets : (security : Security) → MeetsPlan hart security [] (secured_file security)
+  meets security = record {
+    hart_is = refl;
+    secured = refl;
+    met = λ place row few. absurd (omega (arith, few));
+    rest = λ byte below unnamed. given security byte;
+  }
+
+  -- what the one write leaves
+  written_by : (mml mmwp rlb : Bool) → hart.has_smepmp ≡ true
+      → replay hart (Write Mseccfg (security_value (bits mml mmwp rlb)) ∷ []) ≡ secured_file (bits mml mmwp rlb)
+  written_by false false false has = rw has refl
+  written_by false true false has = rw has refl
+  written_by true false false has = rw has refl
+  written_by true true false has = rw has refl
+  written_by false false true has = rw (has, none_locked hart.entries) refl
+  written_by false true true has = rw (has, none_locked hart.entries) refl
+  written_by true false true has = rw (has, none_locked hart.entries) refl
+  written_by true true true has = rw (has, none_locked hart.entries) refl
+
+  met_by_write : (mml mmwp rlb : Bool) → hart.has_smepmp ≡ true
+      → MeetsPlan hart (bits mml mmwp rlb) [] (replay hart (Write Mseccfg (security_value (bits mml mmwp rlb)) ∷ []))
+  met_by_write mml mmwp rlb has = rw (written_by mml mmwp rlb has) (meets (bits mml mmwp rlb))
+
+  smepmp_by : (has : Bool) (security : Security) → (has ≡ false → security ≡ no_security)
+      → security_value security ≢ 0 → has ≡ true
+  smepmp_by true security kept asked = refl
+  smepmp_by false security kept asked = absurd (asked (ap security_value (kept refl)))
+
+  met_by_bits : (mml mmwp rlb : Bool) → (hart.has_smepmp ≡ false → bits mml mmwp rlb ≡ no_security)
+      → MeetsPlan hart (bits mml mmwp rlb) [] (replay hart (security_writes (bits mml mmwp rlb)))
+  met_by_bits false false false kept = meets no_security
+  met_by_bits false false true kept =
+      met_by_write false false true (smepmp_by hart.has_smepmp (bits false false true) kept (λ e. absurd (omega (arith, e))))
+  met_by_bits false true false kept =
+      met_by_write false true false (smepmp_by hart.has_smepmp (bits false true false) kept (λ e. absurd (omega (arith, e))))
+  met_by_bits false true true kept =
+      met_by_write false true true (smepmp_by hart.has_smepmp (bits false true true) kept (λ e. absurd (omega (arith, e))))
+  met_by_bits true false false kept =
+      met_by_write true false false (smepmp_by hart.has_smepmp (bits true false false) kept (λ e. absurd (omega (arith, e))))
+  met_by_bits true false true kept =
+      met_by_write true false true (smepmp_by hart.has_smepmp (bits true false true) kept (λ e. absurd (omega (arith, e))))
+  met_by_bits true true false kept =
+      met_by_write true true false (smepmp_by hart.has_smepmp (bits true true false) kept (λ e. absurd (omega (arith, e))))
+  met_by_bits true true true kept =
+      met_by_write true true true (smepmp_by hart.has_smepmp (bits true true true) kept (λ e. absurd (omega (arith, e))))
+
+  pub met_without_rows : (security : Security) → (hart.has_smepmp ≡ false → security ≡ no_security)
+      → MeetsPlan hart security [] (replay hart (security_writes security))
+  met_without_rows security kept = met_by_bits security.mml security.mmwp security.rlb kept
+
+pub no_rows : (rows : List PlanRow) → true ≡ nat_eq (length rows) 0 → rows ≡ []
+no_rows [] is = refl
+no_rows (row ∷ more) is = absurd (omega (arith, eqb-true (length (row ∷ more)) 0 (sym is)))

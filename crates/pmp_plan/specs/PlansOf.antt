@@ -1,0 +1,47 @@
+-- The plan that a script's registers amount to.
+use Rattle.std.specs.Prelude.{◌≡◌, ℕ, List, Option, Ok, Err, map}
+use Rattle.std.specs.Io.KnownBytes.{Appends, Keeps}
+use Rattle.pmp_core.specs.RegisterFile.{RegisterFile}
+use Rattle.pmp_text.specs.Bytes.{AppendsBeginning}
+use Rattle.pmp_text.specs.Contents.{ScriptContents}
+use Rattle.pmp_text.specs.Outcomes.{out_of_memory}
+use Rattle.pmp_text.specs.Reports.{file_behind}
+use Rattle.pmp_text.specs.Scripts.{script_meaning}
+use Rattle.pmp_text.specs.declared.script.ScriptFault.{ScriptFault}
+use Rattle.pmp_plan.specs.declared.answer.AnswerFault.{AnswerFault}
+use Rattle.pmp_plan.specs.declared.answer.AnswerFault.TheVariants as answer
+use Rattle.pmp_plan.specs.declared.fault.PlanFault.TheVariants.{Memory}
+use Rattle.pmp_plan.specs.declared.plan_row.PlanRow.{PlanRow}
+use Rattle.pmp_plan.specs.declared.security.Security.{Security}
+use Rattle.pmp_plan.specs.KeptRows.{said}
+use Rattle.pmp_plan.specs.PlanTexts.{plan_said}
+use Rattle.pmp_plan.specs.Plans.{MeetsPlan}
+
+-- the text says a plan, which the register file meets on its hart
+pub record IsPlanOf (file : RegisterFile) (text : List ℕ) : Type 0 where
+  pub rows : List PlanRow
+  pub are : plan_said text ≡ Ok (map said rows)
+  pub security : Security
+  pub met : MeetsPlan file.profile security rows file
+
+-- the text is a plan of the registers that all publications of a script leave
+pub record IsPlanOfScript (script text : List ℕ) : Type 0 where
+  pub contents : ScriptContents
+  pub means : script_meaning script ≡ Ok contents
+  pub plan : IsPlanOf (file_behind contents.start contents.batches) text
+
+-- the text is no script, or memory ran out
+pub data HasNoPlan (script : List ℕ) : AnswerFault → Type 0 where
+  no_script : (fault : ScriptFault) → script_meaning script ≡ Err fault → HasNoPlan script (answer.Script fault)
+  no_memory_for_script : HasNoPlan script (answer.Script out_of_memory)
+  no_memory : HasNoPlan script (answer.Plan Memory)
+
+module _ (script : List ℕ) (before after : Option (List ℕ)) where
+  abbrev pub PlanOfSays : Type 0
+  PlanOfSays = (text : List ℕ) × IsPlanOfScript script text × Appends before after text
+
+  -- why nothing is written, or not all where the output fails
+  pub data PlanOfFails : AnswerFault → Type 0 where
+    no_plan : (fault : AnswerFault) → HasNoPlan script fault → Keeps before after → PlanOfFails fault
+    no_output : (text : List ℕ) → IsPlanOfScript script text → AppendsBeginning before after text
+        → PlanOfFails answer.Output

@@ -1,0 +1,128 @@
+//! What is written for the text of a plan.
+
+ghost use Rattle.std.specs.Prelude.{◌≡◌, IfErr, IfOk, OnOk};
+ghost use Rattle.pmp_plan.specs.PlanAnswers.{IsTold, PlanFails, PlanSays, Untold, too_long};
+ghost use Rattle.pmp_plan.specs.declared.answer.AnswerFault.TheVariants.{Output, Plan, Script, Text};
+ghost use Rattle.pmp_plan.specs.declared.fault.PlanFault.TheVariants.{Memory};
+
+use crate::array::append_array;
+use crate::fault::PlanFault;
+use crate::plan_row::PlanRow;
+use crate::planning::plan;
+use crate::reading::read_plan;
+use crate::script::append_script;
+use crate::security::Security;
+use pmp_core::Hart;
+use pmp_text::{MAX_SCRIPT, OutputFault, Refusal, ScriptFault, TraceFault, write_out};
+use std::alloc::{AllocError, Global};
+use std::io::Write;
+
+/// How writes are told.
+#[derive(Clone, Copy, Debug, PartialEq, Eq)]
+pub enum Form {
+    /// As a script of version 3.
+    Script,
+    /// As an array in C.
+    Array,
+}
+
+/// Why nothing is written for a text, or not all.
+#[derive(Clone, Copy, Debug, PartialEq, Eq)]
+pub enum AnswerFault {
+    /// The text says no plan.
+    Text(TraceFault),
+    /// The text says no script.
+    Script(ScriptFault),
+    /// There are no writes for the plan, or there is no memory.
+    Plan(PlanFault),
+    Output,
+}
+
+impl From<PlanFault> for AnswerFault {
+    ghost from_gives = { λ fault answer. answer ≡ Plan fault };
+
+    fn from(fault: PlanFault) -> AnswerFault {
+        AnswerFault::Plan(fault)
+    }
+}
+
+impl From<TraceFault> for AnswerFault {
+    ghost from_gives = { λ fault answer. answer ≡ Text fault };
+
+    fn from(fault: TraceFault) -> AnswerFault {
+        AnswerFault::Text(fault)
+    }
+}
+
+impl From<ScriptFault> for AnswerFault {
+    ghost from_gives = { λ fault answer. answer ≡ Script fault };
+
+    fn from(fault: ScriptFault) -> AnswerFault {
+        AnswerFault::Script(fault)
+    }
+}
+
+impl From<AllocError> for AnswerFault {
+    ghost from_gives = { λ _ answer. answer ≡ Plan Memory };
+
+    fn from(_: AllocError) -> AnswerFault {
+        AnswerFault::Plan(PlanFault::Memory)
+    }
+}
+
+impl From<OutputFault> for AnswerFault {
+    ghost from_gives = { λ _ answer. answer ≡ Output };
+
+    fn from(_: OutputFault) -> AnswerFault {
+        AnswerFault::Output
+    }
+}
+
+/// The text that tells of the writes for these rows.
+fn told(
+    alloc: Global,
+    hart: Hart,
+    security: Security,
+    form: Form,
+    rows: &[PlanRow<'_>],
+) -> Result<Vec<u8>, AnswerFault>
+    ensures ok { IfOk result (λ text. IsTold hart security form rows.now text.items) }
+    ensures err { IfErr result (Untold hart security rows.now) }
+{
+    let planned = plan(alloc, hart, security, rows)?;
+    let mut text = Vec::new(alloc);
+    match form {
+        Form::Script => append_script(&mut text, &planned, security, rows)?,
+        Form::Array => append_array(&mut text, &planned.writes)?,
+    }
+    Ok(text)
+}
+
+fn too_long() -> TraceFault
+    ensures { result ≡ too_long }
+{
+    Refusal::TooLong.whole().at_row(0)
+}
+
+/// Writes the writes for a plan that a text has, for a hart that was reset and these bits of `mseccfg`.
+///
+/// The text is whole before its first byte is written, so every refusal but `Output` leaves the output untouched.
+pub fn write_plan<W: Write>(
+    alloc: Global,
+    hart: Hart,
+    security: Security,
+    form: Form,
+    text: &[u8],
+    writer: &mut W,
+) -> Result<(), AnswerFault>
+    ensures ok { OnOk result (PlanSays hart security form text.now (W.contents writer.old) (W.contents writer.new)) }
+    ensures err { IfErr result (PlanFails hart security form text.now (W.contents writer.old) (W.contents writer.new)) }
+{
+    if text.len() > MAX_SCRIPT {
+        return Err(AnswerFault::Text(too_long()));
+    }
+    let rows = read_plan(alloc, text)?;
+    let told = told(alloc, hart, security, form, &rows)?;
+    write_out(writer, &told)?;
+    Ok(())
+}

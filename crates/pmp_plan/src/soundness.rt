@@ -1,0 +1,41 @@
+//! Whether a plan is sound, before entries are looked for.
+
+ghost use Rattle.std.specs.Prelude.{◌≡◌, All, IfErr, MatchOption, OnOk, Some, slice_get};
+ghost use Rattle.pmp_plan.specs.PlanFaults.{IsSound, Refuses};
+ghost use Rattle.pmp_plan.specs.PlanRules.{HasRule};
+ghost use Rattle.pmp_plan.specs.declared.plan_row.PlanRow.{PlanRow};
+
+use crate::choices::has_rule;
+use crate::fault::PlanFault;
+use crate::plan_row::PlanRow;
+use crate::row_faults::check_rows;
+use crate::security::Security;
+use pmp_core::Hart;
+
+/// The first row whose rights no rule gives, or none that can be held.
+fn unruled(security: Security, rows: &[PlanRow<'_>]) -> Option<usize>
+    ensures { MatchOption result (All (λ (row : PlanRow). HasRule security row.demand) rows.now)
+        (λ index. (row : PlanRow) × (slice_get rows.now index ≡ Some row) × ¬ (HasRule security row.demand)) }
+{
+    for (index, row) in rows.iter().enumerate() {
+        if !has_rule(security, row.demand) {
+            return Some(index);
+        }
+    }
+    None
+}
+
+/// Whether nothing is wrong with a plan by itself.
+pub fn check_plan(hart: Hart, security: Security, rows: &[PlanRow<'_>]) -> Result<(), PlanFault>
+    ensures ok { OnOk result (IsSound hart security rows.now) }
+    ensures err { IfErr result (Refuses hart security rows.now) }
+{
+    check_rows(hart, rows)?;
+    if security != Security::NONE && !hart.has_smepmp() {
+        return Err(PlanFault::NotHeld);
+    }
+    match unruled(security, rows) {
+        Some(row) => Err(PlanFault::BadPair { row }),
+        None => Ok(()),
+    }
+}
