@@ -1,0 +1,67 @@
+-- Texts of fields, with numbers in the places of names.
+use Rattle.std.specs.Prelude.{ℕ, List, [], ◌∷◌, ◌++◌, Bool, false, not, ◌&&◌, ◌||◌, ◌==◌, Option, Some, None, codes}
+use Rattle.std.specs.Prelude.{bytes_eq, if◌then◌else◌}
+use Rattle.std.specs.Fmt.{digits}
+use Rattle.std.specs.List.{flat_map, onto_first}
+use Rattle.pmp_names.specs.AddressNames.{Named}
+use Rattle.pmp_names.specs.NamedAddresses.{place_said}
+
+-- a quote begins quotes or ends them
+abbrev pub quoted_behind : (in_quotes : Bool) (byte : ℕ) → Bool
+quoted_behind in_quotes byte = if byte == 34 then not in_quotes else in_quotes
+
+-- the parts of a text, between the separators outside quotes
+abbrev pub parts_from : (separator : ℕ) (in_quotes : Bool) → (text : List ℕ) → List (List ℕ)
+parts_from separator in_quotes [] = [] ∷ []
+parts_from separator in_quotes (byte ∷ more) =
+    if byte == separator && not in_quotes then [] ∷ parts_from separator false more
+    else onto_first byte (parts_from separator (quoted_behind in_quotes byte) more)
+
+abbrev pub parts_of : (separator : ℕ) (text : List ℕ) → List (List ℕ)
+parts_of separator text = parts_from separator false text
+
+-- between commas
+abbrev pub fields_of : (line : List ℕ) → List (List ℕ)
+fields_of line = parts_of 44 line
+
+-- whether a column has addresses, by its head
+abbrev pub heads_addresses : (head : List ℕ) → Bool
+heads_addresses head =
+    bytes_eq head (codes "start") || (bytes_eq head (codes "first") || bytes_eq head (codes "last"))
+
+-- a field with a number where a name leads somewhere
+abbrev pub number_for : Option ℕ → (field : List ℕ) → List ℕ
+number_for (Some address) field = codes "0x" ++ digits 16 false address
+number_for None field = field
+
+abbrev pub numbered_field : List Named → (head field : List ℕ) → List ℕ
+numbered_field names head field = if heads_addresses head then number_for (place_said names field) field else field
+
+-- the fields of a row below their heads
+abbrev pub numbered_fields : List Named → (heads fields : List (List ℕ)) → List (List ℕ)
+numbered_fields names heads [] = []
+numbered_fields names [] (field ∷ fields) = field ∷ fields
+numbered_fields names (head ∷ heads) (field ∷ fields) =
+    numbered_field names head field ∷ numbered_fields names heads fields
+
+-- fields as a row again
+abbrev pub row_of : List (List ℕ) → List ℕ
+row_of [] = []
+row_of (field ∷ fields) = field ++ flat_map (λ field. codes "," ++ field) fields
+
+abbrev pub numbered_row : List Named → (header row : List ℕ) → List ℕ
+numbered_row names header row = row_of (numbered_fields names (fields_of header) (fields_of row))
+
+-- the first line heads the columns of the others
+abbrev pub numbered_lines : List Named → List (List ℕ) → List ℕ
+numbered_lines names [] = []
+numbered_lines names (header ∷ rows) = header ++ flat_map (λ row. codes "\n" ++ numbered_row names header row) rows
+
+-- a text with numbers in the places of the names that its fields of addresses say, line by line
+abbrev pub numbered_text : List Named → (text : List ℕ) → List ℕ
+numbered_text names text = numbered_lines names (parts_of 10 text)
+
+-- the same where names are given
+abbrev pub numbered : Option (List Named) → (text : List ℕ) → List ℕ
+numbered None text = text
+numbered (Some names) text = numbered_text names text

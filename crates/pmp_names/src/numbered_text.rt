@@ -1,0 +1,155 @@
+//! Texts of fields, with numbers in the places of names.
+
+ghost use Rattle.std.specs.Prelude.{◌≡◌, ◌++◌, ◌∷◌, ◌<◌, IfOk, IfSome, List, OnOk, Some, codes, false, length, map, ℕ};
+ghost use Rattle.std.specs.Fmt.{digits};
+ghost use Rattle.pmp_names.specs.AddressNames.{Named};
+ghost use Rattle.pmp_names.specs.NumberedTexts.{fields_of, heads_addresses, numbered_field, numbered_fields};
+ghost use Rattle.pmp_names.specs.NumberedTexts.{numbered, numbered_row, numbered_text, parts_of, quoted_behind};
+ghost use Rattle.pmp_names.specs.Parts.{end_at, rest_of};
+ghost use Rattle.pmp_names.specs.NameLists.{named, plain_names};
+
+use crate::address_name::AddressName;
+use crate::named_address::read_place;
+use pmp_text::append_line;
+use std::alloc::{AllocError, Global};
+use std::fmt;
+use std::fmt::Write;
+
+/// An address in a text.
+#[derive(Clone, Copy)]
+struct Number(u64);
+
+impl fmt::Display for Number {
+    ghost output = { λ number. Some (codes "0x" ++ digits 16 false number.0) };
+
+    fn fmt<W: fmt::Write>(&self, f: &mut fmt::Formatter<W>) -> fmt::Result {
+        let address = self.0;
+        write!(f, "0x{address:x}")
+    }
+}
+
+/// Whether quotes are open behind a byte.
+fn quoted_behind(in_quotes: bool, byte: u8) -> bool
+    ensures { result ≡ quoted_behind in_quotes byte }
+{
+    if byte == b'"' { !in_quotes } else { in_quotes }
+}
+
+/// Where the first separator outside quotes stands.
+fn end_at(text: &[u8], separator: u8) -> Option<usize>
+    ensures value { result ≡ end_at separator text.now }
+    ensures inside { IfSome result (λ end. end < length text.now) }
+{
+    let mut in_quotes = false;
+    for (place, byte) in text.iter().enumerate() {
+        if *byte == separator && !in_quotes {
+            return Some(place);
+        }
+        in_quotes = quoted_behind(in_quotes, *byte);
+    }
+    None
+}
+
+/// The first part of a text, and what stands behind its separator, where it has one.
+fn split_part(text: &[u8], separator: u8) -> (&[u8], Option<&[u8]>)
+    ensures { parts_of separator text.now ≡ result.0.now ∷ rest_of separator result.1 }
+{
+    match end_at(text, separator) {
+        Some(end) => (&text[..end], Some(&text[end + 1..])),
+        None => (text, None),
+    }
+}
+
+fn heads_addresses(head: &[u8]) -> bool
+    ensures { result ≡ heads_addresses head.now }
+{
+    matches!(head, b"start" | b"first" | b"last")
+}
+
+/// Appends a field, with a number in the place of a name.
+fn append_field(
+    out: &mut Vec<u8>,
+    names: &[AddressName<'_>],
+    head: &[u8],
+    field: &[u8],
+) -> Result<(), AllocError>
+    ensures { OnOk result (out.new.items ≡ out.old.items ++ numbered_field (map named names.now) head.now field.now) }
+{
+    if heads_addresses(head) {
+        if let Some(address) = read_place(names, field) {
+            return append_line(out, Number(address));
+        }
+    }
+    Ok(out.extend_from_slice(field)?)
+}
+
+/// The head of the next column, and what is left of the header.
+fn next_head(heads: &[u8]) -> (&[u8], &[u8])
+    ensures { (names : List Named) → (field : List ℕ) → (fields : List (List ℕ))
+        → numbered_fields names (fields_of heads.now) (field ∷ fields)
+        ≡ numbered_field names result.0.now field ∷ numbered_fields names (fields_of result.1.now) fields }
+{
+    match split_part(heads, b',') {
+        (head, Some(behind)) => (head, behind),
+        (head, None) => (head, b""),
+    }
+}
+
+/// Appends a row below this header, with numbers in the places of names.
+fn append_row(
+    out: &mut Vec<u8>,
+    names: &[AddressName<'_>],
+    header: &[u8],
+    row: &[u8],
+) -> Result<(), AllocError>
+    ensures { OnOk result (out.new.items ≡ out.old.items ++ numbered_row (map named names.now) header.now row.now) }
+{
+    let (head, mut heads) = next_head(header);
+    let (field, mut rest) = split_part(row, b',');
+    append_field(out, names, head, field)?;
+    while let Some(behind) = rest {
+        let (head, other_heads) = next_head(heads);
+        let (field, other_fields) = split_part(behind, b',');
+        out.push(b',')?;
+        append_field(out, names, head, field)?;
+        heads = other_heads;
+        rest = other_fields;
+    }
+    Ok(())
+}
+
+/// Appends a text whose first line heads the fields of the others, with numbers in the places of names.
+fn append_numbered(
+    out: &mut Vec<u8>,
+    names: &[AddressName<'_>],
+    text: &[u8],
+) -> Result<(), AllocError>
+    ensures { OnOk result (out.new.items ≡ out.old.items ++ numbered_text (map named names.now) text.now) }
+{
+    let (header, mut rest) = split_part(text, b'\n');
+    out.extend_from_slice(header)?;
+    while let Some(behind) = rest {
+        let (row, rows) = split_part(behind, b'\n');
+        out.push(b'\n')?;
+        append_row(out, names, header, row)?;
+        rest = rows;
+    }
+    Ok(())
+}
+
+/// A text whose first line heads the fields of the others, with a number in the place of each of these names that a
+/// field of an address says; without names it is the same.
+pub fn number_text(
+    alloc: Global,
+    names: Option<&[AddressName<'_>]>,
+    text: Vec<u8>,
+) -> Result<Vec<u8>, AllocError>
+    ensures { IfOk result (λ all. all.items ≡ numbered (plain_names names.entry) text.items) }
+{
+    let Some(names) = names else {
+        return Ok(text);
+    };
+    let mut all = Vec::new(alloc);
+    append_numbered(&mut all, names, &text)?;
+    Ok(all)
+}
