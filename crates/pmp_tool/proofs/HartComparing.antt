@@ -1,6 +1,6 @@
 -- A comparison with the first hart of a folder.
 use Rattle.std.proofs.Common.{◌≡◌, ◌∙◌, ◌≤◌, ◌∷◌, [], ap, refl, List, Some, None, length, option_map, true, false}
-use Rattle.std.proofs.Common.{arith}
+use Rattle.std.proofs.Common.{arith, Bool}
 use Rattle.std.specs.List.{slice_get}
 use Rattle.clap.specs.Words.{Text}
 use Rattle.pmp_names.specs.declared.hart_name.HartName.{HartName}
@@ -24,16 +24,16 @@ first_of (hart ∷ more) first is =
     (names_of more, ap (λ (one : HartName). one.name.bytes ∷ names_of more) same)
 
 pub is_comparison : (command : Command) (harts : Harts) (one : Command) (others : Harts) (first : HartName) (script : Text)
-    → Some first ≡ slice_get harts.names.items 0 → script ≡ path_on true command.script.now first.name.bytes
+    (has_locks : Bool) → Some first ≡ slice_get harts.names.items 0
+    → script ≡ path_on true command.script.now first.name.bytes → has_locks ≡ compares_locks command.request
     → asked one ≡ record {
       script = script;
       names = option_map (λ path. path.now) command.names;
-      task = Diff command.script.now None None
-          (record { only = None; has_locks = compares_locks command.request });
+      task = Diff command.script.now None None (record { only = None; has_locks = has_locks });
     }
     → others ≡ record { old = false; new = true; names = harts.names }
     → IsComparison command harts one others
-is_comparison command harts one others first script is path asks are =
+is_comparison command harts one others first script has_locks is path locks asks are =
     let (rest, names) = first_of harts.names.items first is in
     record {
       first = first.name.bytes;
@@ -42,9 +42,12 @@ is_comparison command harts one others first script is path asks are =
       asks = asks ∙ ap (λ (path : Text). record {
         script = path;
         names = option_map (λ path. path.now) command.names;
-        task = Diff command.script.now None None
-            (record { only = None; has_locks = compares_locks command.request });
-      }) path;
+        task = Diff command.script.now None None (record { only = None; has_locks = has_locks });
+      }) path ∙ ap (λ (locks : Bool). record {
+        script = path_on true command.script.now first.name.bytes;
+        names = option_map (λ path. path.now) command.names;
+        task = Diff command.script.now None None (record { only = None; has_locks = locks });
+      }) locks;
       is_old = ap (λ (harts : Harts). harts.old) are;
       is_new = ap (λ (harts : Harts). harts.new) are;
       same = ap (λ (harts : Harts). harts.names) are;
