@@ -88,7 +88,8 @@ test:
 	    'checks/hostile $(PROGRAM)' \
 	    'checks/machines $(PROGRAM)' \
 	    'checks/rv32 $(PROGRAM)' \
-	    'checks/growths $(GROWTHS)'
+	    'checks/growths $(GROWTHS)' \
+	    'checks/plans --plans 200 $(PROGRAM)'
 
 # Notes that rt ci has proved the program.
 PROVED = release/build --note program "rt ci" "$$(cat out/proving)" && rm out/proving

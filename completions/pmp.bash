@@ -1,14 +1,14 @@
 # Completion of pmp for bash.
 _pmp() {
     local word=${COMP_WORDS[COMP_CWORD]} before=${COMP_WORDS[COMP_CWORD - 1]} files= words=
-    local commands='check why audit policy dump map picture entries writes lint diff harts import'
+    local commands='check why audit policy dump map picture entries writes lint diff harts import plan'
     if [ "$COMP_CWORD" = 1 ]; then
         COMPREPLY=($(compgen -W "$commands help --help --version" -- "$word"))
         return
     fi
     case ${COMP_WORDS[1]} in
-        check) words='--explain --after --expect M S U fetch load store stdin'; files=yes ;;
-        why) words='--explain --after M S U fetch load store stdin'; files=yes ;;
+        check) words='--explain --after --expect --names M S U fetch load store stdin'; files=yes ;;
+        why) words='--explain --after --names M S U fetch load store stdin'; files=yes ;;
         audit) words='--explain --checkers --long --jobs --first-row stdin'; files=yes ;;
         policy) words='--explain --each-write --names stdin'; files=yes ;;
         dump) words='--explain --after --script stdin'; files=yes ;;
@@ -21,6 +21,10 @@ _pmp() {
         import)
             words='--explain --hart --xlen --entries --grain --address-bits --smepmp --bursts --folder stdin'
             if [ "$COMP_CWORD" = 2 ]; then words='qemu gdb openocd spike dump'; else files=yes; fi
+            ;;
+        plan)
+            words='--explain --xlen --entries --grain --address-bits --smepmp --mml --mmwp --rlb --c --of stdin'
+            files=yes
             ;;
         help) words="$commands script trace rows" ;;
     esac

@@ -1,5 +1,5 @@
 # Completion of pmp for fish.
-set -l commands check why audit policy dump map picture entries writes lint diff harts import
+set -l commands check why audit policy dump map picture entries writes lint diff harts import plan
 complete -c pmp -n __fish_use_subcommand -f -l help -d 'tell of the commands'
 complete -c pmp -n __fish_use_subcommand -f -l version -d 'write the version'
 complete -c pmp -n __fish_use_subcommand -f -a check -d 'decide one access'
@@ -15,13 +15,14 @@ complete -c pmp -n __fish_use_subcommand -f -a lint -d 'write what a reader shou
 complete -c pmp -n __fish_use_subcommand -f -a diff -d 'write where two scripts differ'
 complete -c pmp -n __fish_use_subcommand -f -a harts -d 'write where the harts of a folder differ'
 complete -c pmp -n __fish_use_subcommand -f -a import -d 'write a script of a log'
+complete -c pmp -n __fish_use_subcommand -f -a plan -d 'write the CSR writes for a plan'
 complete -c pmp -n __fish_use_subcommand -f -a help -d 'tell of a command'
 complete -c pmp -n '__fish_seen_subcommand_from help' -f -a "$commands script trace rows"
 complete -c pmp -n "__fish_seen_subcommand_from $commands" -l explain -d 'explain a refusal'
 complete -c pmp -n '__fish_seen_subcommand_from check why dump map picture entries' -l after -x \
     -a 'last mml mmwp rlb-clear' -d 'take the first N publications'
-complete -c pmp -n '__fish_seen_subcommand_from policy map entries lint diff harts' -l names -r \
-    -d 'write the names of the bytes behind each row'
+complete -c pmp -n '__fish_seen_subcommand_from check why policy map entries lint diff harts' -l names -r \
+    -d 'take names of addresses'
 complete -c pmp -n '__fish_seen_subcommand_from lint' -l accept -x \
     -a 'rlb-left-on mmwp-off open-before-locked never-decides write-and-execute open-between late-write' \
     -d 'leave out findings with this name'
@@ -43,11 +44,16 @@ complete -c pmp -n '__fish_seen_subcommand_from diff' -l only -x -a 'more less' 
 complete -c pmp -n '__fish_seen_subcommand_from diff harts' -l locks -d 'write the rows of locks too'
 complete -c pmp -n '__fish_seen_subcommand_from import' -a 'qemu gdb openocd spike dump'
 complete -c pmp -n '__fish_seen_subcommand_from import' -l hart -x -d 'take the registers of hart N'
-complete -c pmp -n '__fish_seen_subcommand_from import' -l xlen -x -a '32 64' -d 'say XLEN'
-complete -c pmp -n '__fish_seen_subcommand_from import' -l entries -x -d 'say how many entries the hart has'
-complete -c pmp -n '__fish_seen_subcommand_from import' -l grain -x -d 'say its grain in bytes'
-complete -c pmp -n '__fish_seen_subcommand_from import' -l address-bits -x -d 'say how many bits an address has'
-complete -c pmp -n '__fish_seen_subcommand_from import' -l smepmp -x -a 'yes no' -d 'say whether it has Smepmp'
+complete -c pmp -n '__fish_seen_subcommand_from import plan' -l xlen -x -a '32 64' -d 'say XLEN'
+complete -c pmp -n '__fish_seen_subcommand_from import plan' -l entries -x -d 'say how many entries the hart has'
+complete -c pmp -n '__fish_seen_subcommand_from import plan' -l grain -x -d 'say its grain in bytes'
+complete -c pmp -n '__fish_seen_subcommand_from import plan' -l address-bits -x -d 'say how many bits an address has'
+complete -c pmp -n '__fish_seen_subcommand_from import plan' -l smepmp -x -a 'yes no' -d 'say whether it has Smepmp'
 complete -c pmp -n '__fish_seen_subcommand_from import' -l folder -r -d 'make a folder with a script of each hart'
 complete -c pmp -n '__fish_seen_subcommand_from import' -l bursts \
     -d 'make one publication of writes on lines side by side'
+complete -c pmp -n '__fish_seen_subcommand_from plan' -l mml -d 'set MML'
+complete -c pmp -n '__fish_seen_subcommand_from plan' -l mmwp -d 'set MMWP'
+complete -c pmp -n '__fish_seen_subcommand_from plan' -l rlb -d 'set RLB'
+complete -c pmp -n '__fish_seen_subcommand_from plan' -l c -d 'write an array in C'
+complete -c pmp -n '__fish_seen_subcommand_from plan' -l of -d 'write the plan of a script'

@@ -1,5 +1,5 @@
 -- A comparison with the first hart of a folder.
-use Rattle.std.proofs.Common.{◌≡◌, ◌∙◌, ◌≤◌, ◌∷◌, [], ap, refl, List, Some, None, length, option_map, true, false}
+use Rattle.std.proofs.Common.{◌≡◌, ◌∙◌, ◌≤◌, ◌∷◌, [], ap, refl, List, Some, None, length, true, false}
 use Rattle.std.proofs.Common.{arith, Bool}
 use Rattle.std.specs.List.{slice_get}
 use Rattle.clap.specs.Words.{Text}
@@ -28,7 +28,6 @@ pub is_comparison : (command : Command) (harts : Harts) (one : Command) (others 
     → script ≡ path_on true command.script.now first.name.bytes → has_locks ≡ compares_locks command.request
     → asked one ≡ record {
       script = script;
-      names = option_map (λ path. path.now) command.names;
       task = Diff command.script.now None None (record { only = None; has_locks = has_locks });
     }
     → others ≡ record { old = false; new = true; names = harts.names }
@@ -41,11 +40,9 @@ is_comparison command harts one others first script has_locks is path locks asks
       are = names;
       asks = asks ∙ ap (λ (path : Text). record {
         script = path;
-        names = option_map (λ path. path.now) command.names;
         task = Diff command.script.now None None (record { only = None; has_locks = has_locks });
       }) path ∙ ap (λ (locks : Bool). record {
         script = path_on true command.script.now first.name.bytes;
-        names = option_map (λ path. path.now) command.names;
         task = Diff command.script.now None None (record { only = None; has_locks = locks });
       }) locks;
       is_old = ap (λ (harts : Harts). harts.old) are;

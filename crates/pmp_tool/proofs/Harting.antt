@@ -1,6 +1,6 @@
 -- A command on each hart of a folder.
 use Rattle.std.proofs.Common.{◌≡◌, ◌∙◌, refl, sym, ap, ℕ, List, [], ◌∷◌, ◌++◌, append_assoc, length, map, Bool}
-use Rattle.std.proofs.Common.{Option, option_map, unwrap_or, arith}
+use Rattle.std.proofs.Common.{Option, unwrap_or, arith}
 use Rattle.std.proofs.KnownBytes.{Keeps-refl}
 use Rattle.std.proofs.lemmas.List.{flat_map_more, map-append}
 use Rattle.std.proofs.lemmas.List.Elements.{All-push}
@@ -46,18 +46,18 @@ task_asked new name (request.Lint accepted) = refl
 task_asked new name (request.Diff diff) = refl
 task_asked new name (request.Harts has_locks) = refl
 task_asked new name (request.Import import) = refl
+task_asked new name (request.Plan plan) = refl
+task_asked new name request.PlanOf = refl
 
 -- so is a command of it
 pub asked_of_hart : (command : Command) (harts : Harts) (name script new : Text) (one : Request)
     → script ≡ path_on harts.old command.script.now name
     → new ≡ path_on harts.new (unwrap_or (new_script command.request) []) name
     → task_of one ≡ with_new new (task_of command.request)
-    → record { script = script; names = option_map (λ path. path.now) command.names; task = task_of one }
-    ≡ asked_on harts name (asked command)
+    → record { script = script; task = task_of one } ≡ asked_on harts name (asked command)
 asked_of_hart command harts name script new one is_script is_new is_task =
-    let names = option_map (λ path. path.now) command.names in
-    ap (λ path. record { script = path; names = names; task = task_of one }) is_script
-    ∙ ap (λ task. record { script = path_on harts.old command.script.now name; names = names; task = task })
+    ap (λ path. record { script = path; task = task_of one }) is_script
+    ∙ ap (λ task. record { script = path_on harts.old command.script.now name; task = task })
     (is_task ∙ ap (λ path. with_new path (task_of command.request)) is_new ∙ task_asked harts.new name command.request)
 
 module _ {scripts traces : Inputs} (command : Command) (naming : Option Naming) (harts : Harts) where

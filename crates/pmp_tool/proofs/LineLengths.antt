@@ -15,7 +15,8 @@ use Rattle.pmp_tool.specs.declared.note.Note.{Note}
 use Rattle.pmp_tool.specs.declared.note.Note.TheVariants as note
 use Rattle.pmp_tool.specs.declared.fault_line.Place.{Place}
 use Rattle.pmp_tool.specs.declared.fault_line.Place.TheVariants.{Nowhere, Word, ScriptLine, TraceRow, PolicyRow}
-use Rattle.pmp_tool.specs.declared.fault_line.Place.TheVariants.{Script, LineOf, LogLine, NamesRow}
+use Rattle.pmp_tool.specs.declared.fault_line.Place.TheVariants.{Script, LineOf, LogLine, NamesRow, PlanRow, PlanRows}
+use Rattle.pmp_tool.specs.declared.fault_line.Place.TheVariants.{PlanEntries}
 
 -- a refusal's number has two digits, and its name eleven letters
 number_fits : (refusal : Refusal) → number_of refusal < 10 ^ 2
@@ -33,7 +34,12 @@ side_fits New = omega arith
 digits_fit : (number : ℕ) → number < 2 ^ 64 → length (decimal number) ≤ 20
 digits_fit number small = length-decimal-le 20 number (omega arith) (omega arith) small
 
-place_fits : (place : Place) → IsNumbered place → length (place_text place) ≤ 34
+one_fits : (first : Bool) (text other : List ℕ) (most : ℕ) → length text ≤ most → length other ≤ most
+    → length (cond first text other) ≤ most
+one_fits true text other most fits other_fits = fits
+one_fits false text other most fits other_fits = other_fits
+
+place_fits : (place : Place) → IsNumbered place → length (place_text place) ≤ 90
 place_fits Nowhere small = omega arith
 place_fits (Word argument) small = omega arith
 place_fits (ScriptLine fault) small = simp length-append (omega (arith, digits_fit fault.line small))
@@ -44,6 +50,14 @@ place_fits (LineOf side fault) small =
     simp length-append (omega (arith, side_fits side, digits_fit fault.line small))
 place_fits (LogLine fault) small = simp length-append (omega (arith, digits_fit fault.line small))
 place_fits (NamesRow fault) small = simp length-append (omega (arith, digits_fit fault.row small))
+place_fits (PlanRow fault) small =
+    one_fits (nat_eq fault.row 0) (codes "plan: ") (codes "plan row " ++ (decimal fault.row ++ codes ": ")) 90
+    (omega arith) (simp length-append (omega (arith, digits_fit fault.row small)))
+place_fits (PlanRows one other) small =
+    simp length-append (omega (arith, digits_fit one small.0, digits_fit other small.1))
+place_fits (PlanEntries row takes found) small =
+    simp length-append
+    (omega (arith, digits_fit row small.0, digits_fit takes small.1, digits_fit found small.2))
 
 pub line_fits : LineFitsLaw
 line_fits refusal place small =
@@ -57,13 +71,9 @@ hart_line_fits name refusal place short small =
     (let small = number_fits refusal in omega arith) in
     simp length-append (omega (arith, short, digits, name_fits refusal, place_fits place small))
 
-none_fits : (none : Bool) (text : List ℕ) (most : ℕ) → length text ≤ most → length (cond none [] text) ≤ most
-none_fits true text most fits = omega arith
-none_fits false text most fits = fits
-
 left_fits : (left : ℕ) → left < 2 ^ 64 → length (left_text left) ≤ 54
-left_fits left small = none_fits (nat_eq left 0) (codes "; writes of other harts left out: " ++ decimal left) 54
-    (simp length-append (omega (arith, digits_fit left small)))
+left_fits left small = one_fits (nat_eq left 0) [] (codes "; writes of other harts left out: " ++ decimal left) 54
+    (omega arith) (simp length-append (omega (arith, digits_fit left small)))
 
 note_text_fits : (one : Note) → IsNumberedNote one → length (note_text one) ≤ 140
 note_text_fits note.Start small = omega arith

@@ -1,9 +1,9 @@
 -- Why a run gives no answer.
-use Rattle.std.proofs.Common.{◌≡◌, ◌≢◌, ◌⊎◌, ◌∙◌, refl, sym, ap, subst, inl, inr, ℕ, List, Option, Result, Ok, Err}
-use Rattle.std.proofs.Common.{Bool, Bor, IfErr, IfOk, None, Some, option_map, true, false}
+use Rattle.std.proofs.Common.{◌≡◌, ◌≢◌, ◌⊎◌, ◌∙◌, refl, sym, ap, subst, inl, inr, ℕ, List, [], Option, Result, Ok, Err}
+use Rattle.std.proofs.Common.{Bool, IfErr, IfOk, None, Some, option_map, true, false}
 use Rattle.std.proofs.lemmas.Result.{IfErr-weaker, IfOk-weaker}
 use Rattle.std.specs.Io.KnownBytes.{Appends, Keeps}
-use Rattle.clap.specs.Words.{HasKind, IsAmong, Text, fault_of, kind_of}
+use Rattle.clap.specs.Words.{HasKind, IsAmong, Row, Text, fault_of, kind_of, subcommand_of}
 use Rattle.clap.specs.declared.error.Error.{Error}
 use Rattle.clap.specs.declared.error.kind.ErrorKind.{ErrorKind}
 use Rattle.clap.specs.declared.error.kind.ErrorKind.TheVariants.{DisplayHelp, DisplayVersion, OutOfMemory}
@@ -24,10 +24,18 @@ use Rattle.pmp_tool.specs.declared.request.Request.{Request}
 use Rattle.pmp_tool.specs.declared.request.Request.TheVariants as request
 use Rattle.pmp_tool.specs.CommandLines.{AsksForPieces, MayAskForText, WordsAskFor, pmp_app}
 use Rattle.pmp_tool.specs.Commands.{asked, task_of}
+use Rattle.pmp_core.specs.declared.hart.Profile.{Profile}
+use Rattle.pmp_plan.specs.PlanAnswers.{PlanFails, long, no_plan, no_writes}
+use Rattle.pmp_plan.specs.PlanAnswers.{no_output as no_plan_written}
+use Rattle.pmp_plan.specs.PlansOf.{PlanOfFails}
+use Rattle.pmp_plan.specs.PlansOf.{no_output as no_plan_of_written, no_plan as no_plan_of}
+use Rattle.pmp_plan.specs.declared.answer.AnswerFault.{AnswerFault}
+use Rattle.pmp_plan.specs.declared.answer.Form.{Form}
+use Rattle.pmp_plan.specs.declared.security.Security.{Security}
 use Rattle.pmp_names.specs.declared.address_names.NamesFault.{NamesFault}
-use Rattle.pmp_names.specs.AddressNames.{names_said}
+use Rattle.pmp_names.specs.AddressNames.{Named, names_said}
 use Rattle.pmp_names.specs.NameLists.{no_memory as no_memory_for_names}
-use Rattle.pmp_tool.specs.Failures.{failure_status, unaudited, unparsed, unparsed_as}
+use Rattle.pmp_tool.specs.Failures.{failure_status, unaudited, unparsed, unparsed_as, unplanned}
 use Rattle.pmp_tool.specs.Failures.{unnamed as unnamed_so}
 use Rattle.pmp_tool.specs.Inputs.{AreBytesOf, Folders, Inputs}
 use Rattle.pmp_tool.specs.Requests.{Declines, InputFails, MomentFails, RequestFails, allowed, taken, unnamed, untaken}
@@ -39,10 +47,9 @@ use Rattle.pmp_tool.specs.HartImports.{new_folder}
 use Rattle.pmp_tool.specs.Harts.{HartsFail, on_hart}
 use Rattle.pmp_tool.specs.Harts.{no_output as no_rows, no_room as no_rows_kept}
 use Rattle.pmp_tool.specs.NamedAnswers.{OneFails, apart, at_once, unkept, unwritten}
-use Rattle.pmp_tool.specs.Runs.{Answers, Done, Fails, TextFails, Undone, UndoneAt, UndoneBy, UndoneFor, UndoneWith, bad_names}
-use Rattle.pmp_tool.specs.Runs.{does}
-use Rattle.pmp_tool.specs.Runs.{no_command, no_harts, no_memory, no_names, no_output, no_room, no_room_for_names}
-use Rattle.pmp_tool.specs.Runs.{no_text, of_harts, of_one, refused_word, refused_words, tells, undone_by}
+use Rattle.pmp_tool.specs.Runs.{Answers, Does, DoesNot, DoesNotAt, Fails, TextFails, UndoneBy, UndoneFor, bad_names}
+use Rattle.pmp_tool.specs.Runs.{does, does_not, no_harts, no_memory, no_names, no_output, no_room, no_room_for_names}
+use Rattle.pmp_tool.specs.Runs.{no_text, of_harts, of_one, refused_word, refused_words, tells, undone}
 
 module _ (words : List Text) (scripts traces : Inputs) (folders : Folders) (before after : Option (List ℕ)) (error : Error)
     (has : HasKind (fault_of pmp_app words) error)
@@ -114,6 +121,20 @@ moment_keeps : {script : List ℕ} {argument : Argument} {when : Option When} {F
 moment_keeps (unnamed fault refuses keeps) rest = keeps
 moment_keeps (allowed failure allows fails) rest = rest fails
 
+-- nor did a plan
+plan_keeps : {hart : Profile} {security : Security} {form : Form} {plan : List ℕ} {before after : Option (List ℕ)}
+    {fault : AnswerFault} → PlanFails hart security form plan before after fault
+    → failure_status (unplanned fault) ≡ 2 → Keeps before after
+plan_keeps (long more keeps) two = keeps
+plan_keeps (no_plan fault why keeps) two = keeps
+plan_keeps (no_writes rows fault are refuses keeps) two = keeps
+plan_keeps (no_plan_written text told front) two = absurd cc
+
+plan_of_keeps : {script : List ℕ} {before after : Option (List ℕ)} {fault : AnswerFault}
+    → PlanOfFails script before after fault → failure_status (unplanned fault) ≡ 2 → Keeps before after
+plan_of_keeps (no_plan_of fault has keeps) two = keeps
+plan_of_keeps (no_plan_of_written text is front) two = absurd cc
+
 -- the request is a long audit or an import
 abbrev IsLong : Request → Type 0
 IsLong asked = ((audit : LongAudit) × (asked ≡ request.LongAudit audit))
@@ -141,6 +162,10 @@ module _ (before after : Option (List ℕ)) (scripts traces : Inputs) where
       moment_keeps fails (λ fails. declines_keep fails two))))
   request_keeps script (request.Harts has_locks) failure fails two = inr fails.1
   request_keeps script (request.Import import) failure fails two = inl (inr (import, refl))
+  request_keeps script (request.Plan plan) failure fails two =
+      inr (plan_keeps fails.fails (sym (ap failure_status fails.is) ∙ two))
+  request_keeps script request.PlanOf failure fails two =
+      inr (plan_of_keeps fails.fails (sym (ap failure_status fails.is) ∙ two))
 
   command_keeps : (command : Command) (failure : Failure) → CommandFails scripts traces command before after failure
       → failure_status failure ≡ 2 → IsLong command.request ⊎ Keeps before after
@@ -186,45 +211,29 @@ by_keeps (of_one failure none fails) two = one_keeps fails two
 by_keeps {command = command} (of_harts harts failure some fails) two =
     inr (folder_keeps _ _ command _ harts _ _ failure (compares_harts command.request) fails two)
 
-with_keeps : {scripts traces : Inputs} {folders : Folders} {command : Command} {before after : Option (List ℕ)}
-    {path : List ℕ} {failure : Failure}
-    → UndoneWith scripts traces folders command before after path failure → failure_status failure ≡ 2
-    → IsLong command.request ⊎ Keeps before after
-with_keeps (no_names fault cant keeps) two = inr keeps
-with_keeps (bad_names text fault is bad keeps) two = inr keeps
-with_keeps (no_room_for_names keeps) two = inr keeps
-with_keeps (undone_by naming failure is undone) two = by_keeps undone two
-
-at_keeps : (scripts traces : Inputs) (folders : Folders) (command : Command) (before after : Option (List ℕ))
-    (failure : Failure) (names : Option (Bor (List ℕ)))
-    → UndoneAt scripts traces folders command before after names failure → failure_status failure ≡ 2
-    → IsLong command.request ⊎ Keeps before after
-at_keeps scripts traces folders command before after failure None undone two = by_keeps undone two
-at_keeps scripts traces folders command before after failure (Some path) undone two = with_keeps undone two
-
 for_keeps : (scripts traces : Inputs) (folders : Folders) (command : Command) (before after : Option (List ℕ))
-    (failure : Failure) (folder : Option (Import × Text))
-    → UndoneFor scripts traces folders command before after folder failure → failure_status failure ≡ 2
+    (naming : Option Naming) (failure : Failure) (folder : Option (Import × Text))
+    → UndoneFor scripts traces folders command before after folder naming failure → failure_status failure ≡ 2
     → IsLong command.request ⊎ Keeps before after
-for_keeps scripts traces folders command before after failure None undone two =
-    at_keeps scripts traces folders command before after failure command.names undone two
-for_keeps scripts traces folders command before after failure (Some (import, path)) undone two = inr undone.1
+for_keeps scripts traces folders command before after naming failure None fails two = by_keeps fails two
+for_keeps scripts traces folders command before after naming failure (Some (import, path)) fails two = inr fails.1
 
 text_keeps : {before after : Option (List ℕ)} {failure : Failure} → TextFails before after failure
     → failure_status failure ≡ 2 → Keeps before after
 text_keeps (no_room keeps) two = keeps
 text_keeps (no_output text front) two = absurd cc
 
--- what a command that the words ask for does is what they ask for
-module _ (words : List Text) (scripts traces : Inputs) (folders : Folders) (command : Command)
-    (before after : Option (List ℕ)) (asks : WordsAskFor words (asked command)) (result : Result Outcome Failure) where
-  pub answered : (made : Inputs) → IfOk result (Done scripts traces folders command before after made)
+-- what is done of what clap found in the words is done of the words
+module _ (words : List Text) (scripts traces : Inputs) (folders : Folders) (before after : Option (List ℕ))
+    (fine : fault_of pmp_app words ≡ []) (found : Option (Text × List Row))
+    (is : found ≡ subcommand_of pmp_app words) (result : Result Outcome Failure) where
+  pub answered : (made : Inputs) → IfOk result (Does found scripts traces folders before after made)
       → IfOk result (Answers words scripts traces folders before after made)
-  answered made = IfOk-weaker result _ _ (λ outcome is. does command outcome asks is)
+  answered made = IfOk-weaker result _ _ (λ outcome done. does outcome fine (rw is at done))
 
-  pub unanswered : IfErr result (Undone scripts traces folders command before after)
+  pub unanswered : IfErr result (DoesNot found scripts traces folders before after)
       → IfErr result (Fails words scripts traces folders before after)
-  unanswered = IfErr-weaker result _ _ (λ failure is. no_command command failure asks is)
+  unanswered = IfErr-weaker result _ _ (λ failure done. does_not failure fine (rw is at done))
 
 -- a text that they ask for was written
 pub text_told : (words : List Text) (scripts traces : Inputs) (folders : Folders) (before after : Option (List ℕ))
@@ -236,60 +245,62 @@ text_told words scripts traces folders before after may (Ok outcome) (is, (text,
 text_told words scripts traces folders before after may (Err failure) told = tt
 
 -- a command of a long audit is what the words ask for
-long_or_kept : (words : List Text) (command : Command) (before after : Option (List ℕ))
-    → WordsAskFor words (asked command) → IsLong command.request ⊎ Keeps before after
+long_or_kept : (words : List Text) (names : List Named) (command : Command) (before after : Option (List ℕ))
+    → WordsAskFor names words (asked command) → IsLong command.request ⊎ Keeps before after
     → AsksForPieces words ⊎ Keeps before after
-long_or_kept words command before after asks (inl (inr (import, is))) =
+long_or_kept words names command before after asks (inl (inr (import, is))) =
     inl (inr (record {
       script = command.script.now;
       log = import.log.now;
       format = import.format;
       options = import.options;
       folder = option_map (λ path. path.now) import.folder;
-      names = option_map (λ path. path.now) command.names;
+      names = names;
       task = (
         asks.0,
-        asks.1 ∙ ap (λ asked. Ok (record {
-          script = command.script.now;
-          names = option_map (λ path. path.now) command.names;
-          task = task_of asked;
-        })) is,
+        asks.1 ∙ ap (λ asked. Ok (record { script = command.script.now; task = task_of asked })) is,
       );
     }))
-long_or_kept words command before after asks (inl (inl (audit, is))) =
+long_or_kept words names command before after asks (inl (inl (audit, is))) =
     inl (inl (record {
       script = command.script.now;
       trace = audit.trace.now;
       jobs = audit.jobs;
       first = audit.first;
-      names = option_map (λ path. path.now) command.names;
+      names = names;
       task = (
         asks.0,
-        asks.1 ∙ ap (λ asked. Ok (record {
-          script = command.script.now;
-          names = option_map (λ path. path.now) command.names;
-          task = task_of asked;
-        })) is,
+        asks.1 ∙ ap (λ asked. Ok (record { script = command.script.now; task = task_of asked })) is,
       );
     }))
-long_or_kept words command before after asks (inr keeps) = inr keeps
+long_or_kept words names command before after asks (inr keeps) = inr keeps
+
+does_not_keep : (words : List Text) {scripts traces : Inputs} {folders : Folders} {before after : Option (List ℕ)}
+    {path : Option Text} {failure : Failure} → fault_of pmp_app words ≡ []
+    → DoesNotAt (subcommand_of pmp_app words) scripts traces folders before after path failure
+    → failure_status failure ≡ 2 → AsksForPieces words ⊎ Keeps before after
+does_not_keep words fine (no_names at fault is cant keeps) two = inr keeps
+does_not_keep words fine (bad_names at text fault is those bad keeps) two = inr keeps
+does_not_keep words fine (no_room_for_names keeps) two = inr keeps
+does_not_keep words fine (refused_word names fault are refused keeps) two = inr keeps
+does_not_keep words fine (undone command naming failure asks fails) two =
+    long_or_kept words asks.names command _ _ (fine, asks.asks)
+    (for_keeps _ _ _ command _ _ naming failure (new_folder command.request) fails two)
 
 pub keeps_at_two : {words : List Text} {scripts traces : Inputs} {folders : Folders} {before after : Option (List ℕ)} {failure : Failure}
     → Fails words scripts traces folders before after failure → failure_status failure ≡ 2
     → AsksForPieces words ⊎ Keeps before after
 keeps_at_two (refused_words error refused keeps) two = inr keeps
-keeps_at_two (refused_word fault refused keeps) two = inr keeps
 keeps_at_two (no_memory keeps) two = inr keeps
 keeps_at_two (no_text failure asked fails) two = inr (text_keeps fails two)
-keeps_at_two {words = words} (no_command command failure asks fails) two =
-    long_or_kept words command _ _ asks (for_keeps _ _ _ command _ _ failure (new_folder command.request) fails two)
+keeps_at_two {words = words} (does_not failure fine fails) two = does_not_keep words fine fails two
 
--- names that can't be read are why a command gets no answer
-pub names_fail : (scripts traces : Inputs) (folders : Folders) (command : Command) (before after : Option (List ℕ))
-    (path text : List ℕ) (fault : NamesFault) → AreBytesOf (traces path) text
+-- names that can't be read are why nothing is done
+pub names_fail : (found : Option (Text × List Row)) (scripts traces : Inputs) (folders : Folders)
+    (before after : Option (List ℕ)) (path text : List ℕ) (fault : NamesFault) → AreBytesOf (traces path) text
     → (fault ≡ no_memory_for_names) ⊎ (names_said text ≡ Err fault) → Keeps before after
-    → UndoneWith scripts traces folders command before after path (unnamed_so fault)
-names_fail scripts traces folders command before after path text fault is (inl memory) keeps =
+    → DoesNotAt found scripts traces folders before after (Some path) (unnamed_so fault)
+names_fail found scripts traces folders before after path text fault is (inl memory) keeps =
     rw memory (no_room_for_names keeps)
-names_fail scripts traces folders command before after path text fault is (inr bad) keeps =
-    bad_names text fault is bad keeps
+names_fail found scripts traces folders before after path text fault is (inr bad) keeps =
+    bad_names path text fault refl is bad keeps

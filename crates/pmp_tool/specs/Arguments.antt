@@ -8,7 +8,7 @@ use Rattle.pmp_tool.specs.declared.argument.Argument.{Argument}
 use Rattle.pmp_tool.specs.declared.argument.Argument.TheVariants as argument
 use Rattle.pmp_tool.specs.declared.command_name.CommandName.{CommandName}
 use Rattle.pmp_tool.specs.declared.command_name.CommandName.TheVariants.{Check, Why, Audit, Policy, Dump, Map, Picture}
-use Rattle.pmp_tool.specs.declared.command_name.CommandName.TheVariants.{Entries, Writes, Lint, Diff, Harts, Import}
+use Rattle.pmp_tool.specs.declared.command_name.CommandName.TheVariants.{Entries, Writes, Lint, Diff, Harts, Import, Plan}
 use Rattle.pmp_tool.specs.declared.jobs.TheConstants.{JOBS}
 
 -- a word that its command requires
@@ -65,6 +65,12 @@ rule_in argument.Bursts = flag_rule (codes "bursts")
 rule_in argument.Names = option_rule (codes "names")
 rule_in argument.Folder = option_rule (codes "folder")
 rule_in argument.Harts = word_rule (codes "script")
+rule_in argument.Plan = word_rule (codes "script")
+rule_in argument.Mml = flag_rule (codes "mml")
+rule_in argument.Mmwp = flag_rule (codes "mmwp")
+rule_in argument.Rlb = flag_rule (codes "rlb")
+rule_in argument.AsArray = flag_rule (codes "c")
+rule_in argument.Of = flag_rule (codes "of")
 
 -- the id by which clap knows it
 abbrev pub id_of : Argument → Text
@@ -72,7 +78,8 @@ id_of argument = (rule_in argument).id
 
 -- the commands, in the order of the help
 abbrev pub commands : List CommandName
-commands = Check ∷ Why ∷ Audit ∷ Policy ∷ Dump ∷ Map ∷ Picture ∷ Entries ∷ Writes ∷ Lint ∷ Diff ∷ Harts ∷ Import ∷ []
+commands =
+    Check ∷ Why ∷ Audit ∷ Policy ∷ Dump ∷ Map ∷ Picture ∷ Entries ∷ Writes ∷ Lint ∷ Diff ∷ Harts ∷ Import ∷ Plan ∷ []
 
 abbrev pub command_word : CommandName → Text
 command_word Check = codes "check"
@@ -88,15 +95,16 @@ command_word Lint = codes "lint"
 command_word Diff = codes "diff"
 command_word Harts = codes "harts"
 command_word Import = codes "import"
+command_word Plan = codes "plan"
 
 -- a command's arguments, in the order of the help
 abbrev pub arguments_of : CommandName → List Argument
 arguments_of Check =
     argument.Script ∷ argument.Explain ∷ argument.Mode ∷ argument.Kind ∷ argument.Start ∷ argument.Length
-    ∷ argument.After ∷ argument.Expect ∷ []
+    ∷ argument.After ∷ argument.Expect ∷ argument.Names ∷ []
 arguments_of Why =
     argument.Script ∷ argument.Explain ∷ argument.Mode ∷ argument.Kind ∷ argument.Start ∷ argument.Length
-    ∷ argument.After ∷ []
+    ∷ argument.After ∷ argument.Names ∷ []
 arguments_of Audit =
     argument.Script ∷ argument.Explain ∷ argument.Trace ∷ argument.Checkers ∷ argument.Long ∷ argument.Jobs
     ∷ argument.FirstRow ∷ []
@@ -115,3 +123,6 @@ arguments_of Harts = argument.Harts ∷ argument.Explain ∷ argument.Locks ∷ 
 arguments_of Import =
     argument.Format ∷ argument.Explain ∷ argument.Log ∷ argument.Hart ∷ argument.Xlen ∷ argument.Entries ∷ argument.Grain
     ∷ argument.AddressBits ∷ argument.Smepmp ∷ argument.Bursts ∷ argument.Folder ∷ []
+arguments_of Plan =
+    argument.Plan ∷ argument.Explain ∷ argument.Xlen ∷ argument.Entries ∷ argument.Grain ∷ argument.AddressBits
+    ∷ argument.Smepmp ∷ argument.Mml ∷ argument.Mmwp ∷ argument.Rlb ∷ argument.AsArray ∷ argument.Of ∷ []

@@ -1,5 +1,5 @@
 -- The command line, as the crate clap reads it.
-use Rattle.std.specs.Prelude.{◌≡◌, ◌≢◌, ◌⊎◌, ℕ, List, [], Option, Ok, Err, true, codes, fold}
+use Rattle.std.specs.Prelude.{◌≡◌, ◌≢◌, ◌⊎◌, ℕ, List, [], Option, Ok, true, codes, fold}
 use Rattle.clap.specs.Words.{App, IsAmong, Text, fault_of, kind_of, new_app, subcommand_of, with_rule, with_subcommand}
 use Rattle.clap.specs.declared.error.Error.{Error}
 use Rattle.clap.specs.declared.error.kind.ErrorKind.TheVariants.{DisplayHelp, DisplayVersion}
@@ -7,8 +7,8 @@ use Rattle.pmp_import.specs.declared.format.Format.{Format}
 use Rattle.pmp_import.specs.declared.options.Options.{Options}
 use Rattle.pmp_tool.specs.declared.argument.Argument.{Argument}
 use Rattle.pmp_tool.specs.declared.command_name.CommandName.{CommandName}
-use Rattle.pmp_tool.specs.declared.fault_line.FaultLine.{FaultLine}
 use Rattle.pmp_tool.specs.Arguments.{arguments_of, command_word, commands, rule_in}
+use Rattle.pmp_names.specs.AddressNames.{Named}
 use Rattle.pmp_tool.specs.Commands.{Asked, Import, LongAudit, asked_of}
 
 -- an argument more
@@ -54,9 +54,10 @@ pmp_app =
     with_command (with_command (with_command commands_app (topic_app (codes "script"))) (topic_app (codes "trace")))
     (topic_app (codes "rows"))
 
--- clap takes the words, and what it finds in them asks for that
-abbrev pub WordsAskFor : List Text → Asked → Type 0
-WordsAskFor words task = (fault_of pmp_app words ≡ []) × (asked_of (subcommand_of pmp_app words) ≡ Ok task)
+-- clap takes the words, and what it finds in them asks for that, where addresses have these names
+abbrev pub WordsAskFor : List Named → List Text → Asked → Type 0
+WordsAskFor names words task =
+    (fault_of pmp_app words ≡ []) × (asked_of names (subcommand_of pmp_app words) ≡ Ok task)
 
 -- the words ask for a long audit
 pub record AsksForLongAudit (words : List Text) : Type 0 where
@@ -64,8 +65,8 @@ pub record AsksForLongAudit (words : List Text) : Type 0 where
   pub trace : Text
   pub jobs : Option ℕ
   pub first : ℕ
-  pub names : Option Text
-  pub task : WordsAskFor words (record { script = script; names = names; task = LongAudit trace jobs first })
+  pub names : List Named
+  pub task : WordsAskFor names words (record { script = script; task = LongAudit trace jobs first })
 
 -- the words ask for an import
 pub record AsksForImport (words : List Text) : Type 0 where
@@ -74,16 +75,12 @@ pub record AsksForImport (words : List Text) : Type 0 where
   pub format : Format
   pub options : Options
   pub folder : Option Text
-  pub names : Option Text
-  pub task : WordsAskFor words (record { script = script; names = names; task = Import log format options folder })
+  pub names : List Named
+  pub task : WordsAskFor names words (record { script = script; task = Import log format options folder })
 
 -- the words ask for what is written piece by piece
 abbrev pub AsksForPieces : List Text → Type 0
 AsksForPieces words = AsksForLongAudit words ⊎ AsksForImport words
-
--- clap takes the words, and one that it finds in them is refused
-abbrev pub WordsAreRefused : List Text → FaultLine → Type 0
-WordsAreRefused words fault = (fault_of pmp_app words ≡ []) × (asked_of (subcommand_of pmp_app words) ≡ Err fault)
 
 -- clap may answer the words by a text: help, or the version
 abbrev pub MayAskForText : List Text → Type 0

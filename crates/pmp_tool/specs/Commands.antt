@@ -1,6 +1,6 @@
 -- What the matches of the command line ask for.
 use Rattle.std.specs.Prelude.{Bool, true, ℕ, ◌-◌, ◌^◌, List, ◌&&◌, ◌||◌, Option, Some, None, unwrap_or, ok_or, option_map, Result, Ok, Err}
-use Rattle.std.specs.Prelude.{if◌then◌else◌, codes, find, is_some}
+use Rattle.std.specs.Prelude.{if◌then◌else◌, codes, find, is_some, option_and_then}
 use Rattle.std.specs.Str.{bytes_eq}
 use Rattle.clap.specs.Words.{Row, Text}
 use Rattle.pmp_core.specs.declared.access.Access.{Access}
@@ -9,10 +9,13 @@ use Rattle.pmp_core.specs.declared.access.AccessFault.TheVariants as access
 use Rattle.pmp_core.specs.declared.access.Kind.{Kind}
 use Rattle.pmp_core.specs.declared.access.Mode.{Mode}
 use Rattle.pmp_core.specs.Access.{access_fault}
+use Rattle.pmp_core.specs.declared.hart.Profile.{Profile}
 use Rattle.pmp_import.specs.declared.format.Format.{Format}
 use Rattle.pmp_import.specs.declared.options.Options.{Options}
 use Rattle.pmp_import.specs.Formats.{format_named}
 use Rattle.pmp_lint.specs.Findings.{accepted_said}
+use Rattle.pmp_names.specs.AddressNames.{Named}
+use Rattle.pmp_names.specs.NamedAddresses.{address_said}
 use Rattle.pmp_lint.specs.declared.accepted.Accepted.{Accepted}
 use Rattle.pmp_text.specs.AccessWords.{kind_named, mode_named}
 use Rattle.pmp_text.specs.declared.moments.When.{When}
@@ -22,7 +25,11 @@ use Rattle.pmp_audit.specs.declared.policy_check.steps.Pace.{Pace}
 use Rattle.pmp_audit.specs.declared.policy_check.steps.Pace.TheVariants.{Events, Publications}
 use Rattle.pmp_audit.specs.declared.script_diff.AskedChanges.{AskedChanges}
 use Rattle.pmp_audit.specs.declared.view.View.{View}
-use Rattle.pmp_audit.specs.declared.view.View.TheVariants.{Registers, Script, Runs, Picture, Entries}
+use Rattle.pmp_audit.specs.declared.view.View.TheVariants.{Registers, Runs, Picture, Entries}
+use Rattle.pmp_audit.specs.declared.view.View.TheVariants.{Script as AsScript}
+use Rattle.pmp_plan.specs.declared.answer.Form.{Form}
+use Rattle.pmp_plan.specs.declared.answer.Form.TheVariants.{Array, Script}
+use Rattle.pmp_plan.specs.declared.security.Security.{Security}
 use Rattle.pmp_share.specs.declared.opening.TheConstants.{CHECKERS}
 use Rattle.pmp_tool.specs.declared.argument.Argument.{Argument}
 use Rattle.pmp_tool.specs.declared.argument.Argument.TheVariants as argument
@@ -38,6 +45,7 @@ use Rattle.pmp_text.specs.declared.refusal.Refusal.TheVariants.{BadFormat, BadLe
 use Rattle.pmp_tool.specs.declared.fault_line.FaultLine.{FaultLine}
 use Rattle.pmp_tool.specs.declared.word.Xlen.{Xlen}
 use Rattle.pmp_tool.specs.Arguments.{command_word, commands}
+use Rattle.pmp_tool.specs.HartWords.{hart_in, is_hart_said, security_in}
 use Rattle.pmp_tool.specs.Words.{and_then, asked_in, bad_word, count_in, expected_named, is_bare_word, is_set, is_used}
 use Rattle.pmp_tool.specs.Words.{needed_in, of_no_word, of_word, only_named, smepmp_named, word_in, xlen_named}
 
@@ -61,6 +69,8 @@ pub data Task : Type 0 where
   Diff : (new : Text) (old_after new_after : Option When) → AskedChanges → Task
   Harts : (has_locks : Bool) → Task
   Import : (log : Text) → Format → Options → (folder : Option Text) → Task
+  Plan : (hart : Profile) → Security → Form → Task
+  PlanOf : Task
 
 abbrev pub access_task : Access → AccessTask
 access_task access = record { mode = access.mode; kind = access.kind; start = access.start; length = access.length }
@@ -77,19 +87,16 @@ task_of (request.Lint accepted) = Lint accepted
 task_of (request.Diff diff) = Diff diff.new.now diff.old_after diff.new_after diff.changes
 task_of (request.Harts has_locks) = Harts has_locks
 task_of (request.Import log) = Import log.log.now log.format log.options (option_map (λ path. path.now) log.folder)
+task_of (request.Plan plan) = Plan plan.hart plan.security plan.form
+task_of request.PlanOf = PlanOf
 
--- a task, the path of the script, and that of names for its rows
+-- a task, and the path of the script
 pub record Asked : Type 0 where
   pub script : Text
-  pub names : Option Text
   pub task : Task
 
 abbrev pub asked : Command → Asked
-asked command = record {
-  script = command.script.now;
-  names = option_map (λ path. path.now) command.names;
-  task = task_of command.request;
-}
+asked command = record { script = command.script.now; task = task_of command.request }
 
 -- the path in a place that its command requires
 abbrev pub path_in : Argument → List Row → Result Text FaultLine
@@ -111,28 +118,33 @@ abbrev pub access_unless : Option AccessFault → AccessTask → Result AccessTa
 access_unless None access = Ok access
 access_unless (Some fault) access = Err (access_line fault)
 
+-- where an access begins: at a number, or at a name that an address has
+abbrev pub start_in : List Named → List Row → Result ℕ FaultLine
+start_in names rows = and_then (path_in argument.Start rows) (λ word.
+    ok_or (address_said names word) (bad_word argument.Start))
+
 -- an access has lawful numbers; its words are read before it is made
-abbrev pub access_in : List Row → Result AccessTask FaultLine
-access_in rows =
+abbrev pub access_in : List Named → List Row → Result AccessTask FaultLine
+access_in names rows =
     and_then (needed_in mode_named argument.Mode rows) (λ mode.
     and_then (needed_in kind_named argument.Kind rows) (λ kind.
-    and_then (needed_in word_number argument.Start rows) (λ start.
+    and_then (start_in names rows) (λ start.
     and_then (needed_in word_number argument.Length rows) (λ length.
     access_unless (access_fault start length) (record { mode = mode; kind = kind; start = start; length = length })))))
 
 -- the options are read before the access is made
-abbrev pub check_in : List Row → Result Task FaultLine
-check_in rows =
+abbrev pub check_in : List Named → List Row → Result Task FaultLine
+check_in names rows =
     and_then (asked_in expected_named argument.Expect rows) (λ expected.
     and_then (asked_in when_said argument.After rows) (λ after.
-    and_then (access_in rows) (λ access.
+    and_then (access_in names rows) (λ access.
     Ok (Check access after (unwrap_or expected Allow) (is_bare_word argument.Start rows)))))
 
 -- the option is read before the access
-abbrev pub why_in : List Row → Result Task FaultLine
-why_in rows =
+abbrev pub why_in : List Named → List Row → Result Task FaultLine
+why_in names rows =
     and_then (asked_in when_said argument.After rows) (λ after.
-    and_then (access_in rows) (λ access. Ok (Why access after (is_bare_word argument.Start rows))))
+    and_then (access_in names rows) (λ access. Ok (Why access after (is_bare_word argument.Start rows))))
 
 -- an audit of a trace that is taken whole
 abbrev pub whole_audit_in : (trace : Text) → List Row → Result Task FaultLine
@@ -214,36 +226,45 @@ import_in rows =
     and_then (options_in rows) (λ options.
     and_then (folder_in log options rows) (λ folder. Ok (Import log format options folder)))))
 
--- what a command's matches ask for
-abbrev pub task_in : CommandName → List Row → Result Task FaultLine
-task_in name.Check rows = check_in rows
-task_in name.Why rows = why_in rows
-task_in name.Audit rows = audit_in rows
-task_in name.Policy rows = policy_in rows
-task_in name.Dump rows = show_in (if is_set argument.AsScript rows then Script else Registers) rows
-task_in name.Map rows = show_in Runs rows
-task_in name.Picture rows = show_in Picture rows
-task_in name.Entries rows = show_in Entries rows
-task_in name.Writes rows = Ok Writes
-task_in name.Lint rows = and_then (asked_in accepted_said argument.Accept rows) (λ accepted. Ok (Lint accepted))
-task_in name.Diff rows = diff_in rows
-task_in name.Harts rows = Ok (Harts (is_set argument.Locks rows))
-task_in name.Import rows = import_in rows
+-- a script's registers have a hart and an mseccfg of their own
+abbrev pub plan_of_in : List Row → Result Task FaultLine
+plan_of_in rows = if is_hart_said rows || is_set argument.AsArray rows then Err (of_no_word BadWord) else Ok PlanOf
+
+abbrev pub plan_in : List Row → Result Task FaultLine
+plan_in rows = if is_set argument.Of rows then plan_of_in rows else and_then (hart_in rows) (λ hart.
+    Ok (Plan hart (security_in rows) (if is_set argument.AsArray rows then Array else Script)))
+
+-- what a command's matches ask for, where addresses have names
+abbrev pub task_in : List Named → CommandName → List Row → Result Task FaultLine
+task_in names name.Check rows = check_in names rows
+task_in names name.Why rows = why_in names rows
+task_in names name.Audit rows = audit_in rows
+task_in names name.Policy rows = policy_in rows
+task_in names name.Dump rows = show_in (if is_set argument.AsScript rows then AsScript else Registers) rows
+task_in names name.Map rows = show_in Runs rows
+task_in names name.Picture rows = show_in Picture rows
+task_in names name.Entries rows = show_in Entries rows
+task_in names name.Writes rows = Ok Writes
+task_in names name.Lint rows = and_then (asked_in accepted_said argument.Accept rows) (λ accepted. Ok (Lint accepted))
+task_in names name.Diff rows = diff_in rows
+task_in names name.Harts rows = Ok (Harts (is_set argument.Locks rows))
+task_in names name.Import rows = import_in rows
+task_in names name.Plan rows = plan_in rows
 
 abbrev pub command_named : Text → Option CommandName
 command_named word = find (λ name. bytes_eq (command_word name) word) commands
 
 -- the script's place is read before the rest of the words
-abbrev pub asked_below : Text × List Row → Result Asked FaultLine
-asked_below (word, rows) =
+abbrev pub asked_below : List Named → Text × List Row → Result Asked FaultLine
+asked_below names (word, rows) =
     and_then (ok_or (command_named word) (of_no_word BadWord)) (λ name.
     and_then (path_in argument.Script rows) (λ script.
-    and_then (task_in name rows) (λ task. Ok (record {
-      script = script;
-      names = word_in argument.Names rows;
-      task = task;
-    }))))
+    and_then (task_in names name rows) (λ task. Ok (record { script = script; task = task }))))
 
 -- what the subcommand that clap found asks for
-unfoldable pub asked_of : Option (Text × List Row) → Result Asked FaultLine
-asked_of found = and_then (ok_or found (of_no_word BadWord)) asked_below
+unfoldable pub asked_of : List Named → Option (Text × List Row) → Result Asked FaultLine
+asked_of names found = and_then (ok_or found (of_no_word BadWord)) (asked_below names)
+
+-- the path of the names that it asks for
+abbrev pub names_path_in : Option (Text × List Row) → Option Text
+names_path_in found = option_and_then (λ (word, rows). word_in argument.Names rows) found

@@ -14,13 +14,17 @@ use Rattle.pmp_names.specs.declared.hart_name.TheConstants.{HART_NAME}
 use Rattle.pmp_audit.specs.Fault.{refusal_of}
 use Rattle.pmp_audit.specs.declared.fault.AuditFault.{AuditFault}
 use Rattle.pmp_audit.specs.declared.fault.Side.{Side}
+use Rattle.pmp_audit.specs.declared.fault.AuditFault.TheVariants as audit
 use Rattle.pmp_import.specs.declared.fault.ImportFault.{ImportFault}
-use Rattle.pmp_tool.specs.FaultLines.{hart_line_text, line_text, place_in_log, place_in_names, place_of}
+use Rattle.pmp_plan.specs.declared.answer.AnswerFault.{AnswerFault}
+use Rattle.pmp_plan.specs.declared.answer.AnswerFault.TheVariants as answer
+use Rattle.pmp_plan.specs.PlanFaults.{refusal_of as plan_refusal}
+use Rattle.pmp_tool.specs.FaultLines.{hart_line_text, line_text, place_in_log, place_in_names, place_in_plan, place_of}
 use Rattle.pmp_tool.specs.declared.failure.Failure.{Failure}
 use Rattle.pmp_tool.specs.declared.fault_line.FaultLine.{FaultLine}
 use Rattle.pmp_tool.specs.declared.failure.Failure.TheVariants.{OfHart, Refused, Words}
 use Rattle.pmp_tool.specs.declared.fault_line.Place.{Place}
-use Rattle.pmp_tool.specs.declared.fault_line.Place.TheVariants.{Nowhere, Script}
+use Rattle.pmp_tool.specs.declared.fault_line.Place.TheVariants.{Nowhere, PlanRow, Script}
 
 abbrev pub failure_status : Failure → ℕ
 failure_status (Words error) = 2
@@ -71,6 +75,13 @@ unaudited fault = refused_at (refusal_of fault) (place_of fault)
 -- a log's fault, where it is
 abbrev pub unimported : ImportFault → Failure
 unimported fault = refused_at fault.kind (place_in_log fault)
+
+-- why a plan has no writes, or a script no plan
+abbrev pub unplanned : AnswerFault → Failure
+unplanned (answer.Text fault) = refused_at fault.kind (PlanRow fault)
+unplanned (answer.Script fault) = unaudited (audit.Script fault)
+unplanned (answer.Plan fault) = refused_at (plan_refusal fault) (place_in_plan fault)
+unplanned answer.Output = refused Output
 
 -- a refusal's text is a line; clap's texts are its own
 abbrev pub failure_text : Failure → Option (List ℕ)

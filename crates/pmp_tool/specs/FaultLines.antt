@@ -1,16 +1,21 @@
 -- The line that tells of a refusal.
-use Rattle.std.specs.Prelude.{ℕ, List, [], ◌++◌, codes, decimal, ◌==◌, if◌then◌else◌}
+use Rattle.std.specs.Prelude.{ℕ, List, [], ◌++◌, codes, decimal, Option, Some, None, ◌==◌, if◌then◌else◌}
 use Rattle.pmp_text.specs.Refusals.{refusal_text}
 use Rattle.pmp_text.specs.declared.refusal.Refusal.{Refusal}
+use Rattle.pmp_text.specs.declared.refusal.Refusal.TheVariants.{BadPair, PastEnd, TooFine}
 use Rattle.pmp_audit.specs.declared.fault.AuditFault.{AuditFault}
 use Rattle.pmp_audit.specs.declared.fault.AuditFault.TheVariants as audit
 use Rattle.pmp_audit.specs.declared.fault.Side.{Side}
 use Rattle.pmp_audit.specs.declared.fault.Side.TheVariants.{Old, New}
 use Rattle.pmp_import.specs.declared.fault.ImportFault.{ImportFault}
 use Rattle.pmp_names.specs.declared.address_names.NamesFault.{NamesFault}
+use Rattle.pmp_names.specs.AddressNames.{next_row}
+use Rattle.pmp_plan.specs.declared.fault.PlanFault.{PlanFault}
+use Rattle.pmp_plan.specs.declared.fault.PlanFault.TheVariants as fault
 use Rattle.pmp_tool.specs.declared.fault_line.Place.{Place}
 use Rattle.pmp_tool.specs.declared.fault_line.Place.TheVariants.{Nowhere, Word, ScriptLine, TraceRow, PolicyRow}
-use Rattle.pmp_tool.specs.declared.fault_line.Place.TheVariants.{Script, LineOf, LogLine, NamesRow}
+use Rattle.pmp_tool.specs.declared.fault_line.Place.TheVariants.{Script, LineOf, LogLine, NamesRow, PlanRow, PlanRows}
+use Rattle.pmp_tool.specs.declared.fault_line.Place.TheVariants.{PlanEntries}
 
 -- where a fault of an answer is: line 0 stands for none, and so does row 0
 abbrev pub place_of : AuditFault → Place
@@ -25,6 +30,18 @@ place_of _ = Nowhere
 -- and of an import
 abbrev pub place_in_log : ImportFault → Place
 place_in_log fault = if fault.line == 0 then Nowhere else LogLine fault
+
+-- and of a plan, whose rows are counted from 0 there and from 1 here
+abbrev pub plan_row : Refusal → (row : ℕ) → (field : Option ℕ) → Place
+plan_row refusal row field = PlanRow (record { kind = refusal; row = next_row row; field = field })
+
+abbrev pub place_in_plan : PlanFault → Place
+place_in_plan (fault.Overlap row other) = PlanRows (next_row row) (next_row other)
+place_in_plan (fault.TooFine row field) = plan_row TooFine row (Some field)
+place_in_plan (fault.PastEnd row) = plan_row PastEnd row None
+place_in_plan (fault.BadPair row) = plan_row BadPair row None
+place_in_plan (fault.FewEntries found row takes) = PlanEntries (next_row row) takes found
+place_in_plan _ = Nowhere
 
 -- and of names
 abbrev pub place_in_names : NamesFault → Place
@@ -45,6 +62,12 @@ place_text (Script side) = side_text side ++ codes ": "
 place_text (LineOf side fault) = side_text side ++ (codes " line " ++ (decimal fault.line ++ codes ": "))
 place_text (LogLine fault) = codes "log line " ++ (decimal fault.line ++ codes ": ")
 place_text (NamesRow fault) = codes "names row " ++ (decimal fault.row ++ codes ": ")
+place_text (PlanRow fault) =
+    if fault.row == 0 then codes "plan: " else codes "plan row " ++ (decimal fault.row ++ codes ": ")
+place_text (PlanRows one other) =
+    codes "plan rows " ++ (decimal one ++ (codes " and " ++ (decimal other ++ codes ": ")))
+place_text (PlanEntries row takes found) = codes "plan row " ++ (decimal row ++ (codes " takes " ++ (decimal takes
+    ++ (codes " of " ++ (decimal found ++ codes " entries: ")))))
 
 abbrev pub fault_text : Refusal → Place → List ℕ
 fault_text refusal place = place_text place ++ (codes "refused " ++ refusal_text refusal)

@@ -30,7 +30,6 @@ compares_locks _ = false
 abbrev pub compared_with : (first : Text) (has_locks : Bool) → Asked → Asked
 compared_with first has_locks asked = record {
   script = path_on true asked.script first;
-  names = asked.names;
   task = Diff asked.script None None (record { only = None; has_locks = has_locks });
 }
 

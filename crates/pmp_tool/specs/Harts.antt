@@ -30,7 +30,7 @@ use Rattle.pmp_tool.specs.CommandAnswers.{CommandAnswers, CommandFails, outcome_
 
 -- ---- which harts a command is asked of
 
--- a folder may stand where a script does, but for a picture, a dump, a long audit and a log
+-- a folder may stand where a script does, but for a picture, a dump, a long audit, a log and a plan
 abbrev pub takes_folder : Request → Bool
 takes_folder (request.Check check) = true
 takes_folder (request.Why why) = true
@@ -114,7 +114,6 @@ task_on new name task = task
 abbrev pub asked_on : Harts → (name : Text) → Asked → Asked
 asked_on harts name asked = record {
   script = path_on harts.old asked.script name;
-  names = asked.names;
   task = task_on harts.new name asked.task;
 }
 

@@ -14,6 +14,7 @@ pub mod NamedAnswers
 pub mod Harts
 pub mod Runs
 pub mod Words
+pub mod HartWords
 -- A law of these definitions, which is proved.
 pub mod LineLengths
 pub mod Notes

@@ -5,14 +5,14 @@ use Rattle.pmp_names.specs.declared.hart_name.TheConstants.{HART_NAME}
 use Rattle.pmp_tool.specs.FaultLines.{hart_line_text, line_text}
 use Rattle.pmp_tool.specs.declared.fault_line.Place.{Place}
 use Rattle.pmp_tool.specs.declared.fault_line.Place.TheVariants.{ScriptLine, TraceRow, PolicyRow, LineOf, LogLine}
-use Rattle.pmp_tool.specs.declared.fault_line.Place.TheVariants.{NamesRow}
+use Rattle.pmp_tool.specs.declared.fault_line.Place.TheVariants.{NamesRow, PlanRow, PlanRows, PlanEntries}
 use Rattle.pmp_tool.specs.declared.fault_line.TheConstants.{LONGEST_LINE, LONGEST_OF_HART}
 use Rattle.pmp_tool.specs.Notes.{note_line}
 use Rattle.pmp_tool.specs.declared.note.Note.{Note}
 use Rattle.pmp_tool.specs.declared.note.Note.TheVariants as note
 use Rattle.pmp_tool.specs.declared.note.TheConstants.{LONGEST_NOTE}
 
--- the number of a line or a row has 64 bits
+-- each number of a place has 64 bits
 abbrev pub IsNumbered : Place → Type 0
 IsNumbered (ScriptLine fault) = fault.line < 2 ^ 64
 IsNumbered (TraceRow fault) = fault.row < 2 ^ 64
@@ -20,6 +20,9 @@ IsNumbered (PolicyRow fault) = fault.row < 2 ^ 64
 IsNumbered (LineOf side fault) = fault.line < 2 ^ 64
 IsNumbered (LogLine fault) = fault.line < 2 ^ 64
 IsNumbered (NamesRow fault) = fault.row < 2 ^ 64
+IsNumbered (PlanRow fault) = fault.row < 2 ^ 64
+IsNumbered (PlanRows one other) = (one < 2 ^ 64) × (other < 2 ^ 64)
+IsNumbered (PlanEntries row takes found) = (row < 2 ^ 64) × (takes < 2 ^ 64) × (found < 2 ^ 64)
 IsNumbered _ = ⊤
 
 -- the line of a refusal, with its LF, fits the room that the program has for it

@@ -1,13 +1,12 @@
 -- The names that a command's rows are to have behind them.
-use Rattle.std.specs.Prelude.{◌≡◌, ℕ, List, map, Option, Some, None, Ok, option_map}
+use Rattle.std.specs.Prelude.{ℕ, List, map, Option, Some, None, option_map}
 use Rattle.pmp_audit.specs.declared.view.View.TheVariants.{Entries, Runs}
 use Rattle.pmp_names.specs.declared.named_rows.Columns.{Columns}
-use Rattle.pmp_names.specs.AddressNames.{Named, names_said, rows_with_names}
+use Rattle.pmp_names.specs.AddressNames.{Named, rows_with_names}
 use Rattle.pmp_names.specs.NameLists.{named}
 use Rattle.pmp_tool.specs.declared.naming.Naming.{Naming}
 use Rattle.pmp_tool.specs.declared.request.Request.{Request}
 use Rattle.pmp_tool.specs.declared.request.Request.TheVariants as request
-use Rattle.pmp_tool.specs.Inputs.{AreBytesOf}
 
 -- which fields of its rows are the first and the last byte address of a range, counted from 0
 abbrev pub columns_of : Request → Option Columns
@@ -22,14 +21,6 @@ columns_of _ = None
 -- names and columns, in plain values
 abbrev pub plain_naming : Option Naming → Option (List Named × Columns)
 plain_naming naming = option_map (λ naming. (map named naming.names.now, naming.columns)) naming
-
--- the names of a text, for the rows of a request
-pub record IsNamingOf (known : Option (List ℕ)) (request : Request) (naming : Option Naming) : Type 0 where
-  pub text : List ℕ
-  pub is_text : AreBytesOf known text
-  pub names : List Named
-  pub are : names_said text ≡ Ok names
-  pub is : plain_naming naming ≡ option_map (λ columns. (names, columns)) (columns_of request)
 
 -- rows with these names behind them
 abbrev pub named_by : Option Naming → (rows : List ℕ) → List ℕ

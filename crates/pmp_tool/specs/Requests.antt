@@ -18,6 +18,9 @@ use Rattle.pmp_text.specs.declared.refusal.Refusal.{Refusal}
 use Rattle.pmp_text.specs.declared.refusal.Refusal.TheVariants.{BadFolder}
 use Rattle.pmp_text.specs.declared.script.reader.TheConstants.{MAX_HEADED_SCRIPT}
 use Rattle.pmp_text.specs.declared.trace.reader.TheConstants.{MAX_TRACE}
+use Rattle.pmp_plan.specs.declared.answer.AnswerFault.{AnswerFault}
+use Rattle.pmp_plan.specs.PlanAnswers.{PlanFails, Tells}
+use Rattle.pmp_plan.specs.PlansOf.{IsPlanOfScript, PlanOfFails}
 use Rattle.pmp_audit.specs.declared.fault.AuditFault.{AuditFault}
 use Rattle.pmp_audit.specs.AccessCheck.{CheckSays}
 use Rattle.pmp_audit.specs.Answers.{IsRefused}
@@ -40,7 +43,7 @@ use Rattle.pmp_tool.specs.declared.failure.Failure.TheVariants.{Refused}
 use Rattle.pmp_tool.specs.declared.fault_line.FaultLine.{FaultLine}
 use Rattle.pmp_tool.specs.declared.request.Request.{Request}
 use Rattle.pmp_tool.specs.declared.request.Request.TheVariants.{Check, Why, Audit, LongAudit, Policy, Show, Writes, Lint, Diff}
-use Rattle.pmp_tool.specs.declared.request.Request.TheVariants.{Harts}
+use Rattle.pmp_tool.specs.declared.request.Request.TheVariants.{Harts, Plan, PlanOf}
 use Rattle.pmp_tool.specs.declared.request.Request.TheVariants.{Import as OfLog}
 use Rattle.pmp_tool.specs.declared.outcome.Outcome.{Outcome}
 use Rattle.pmp_tool.specs.declared.outcome.Outcome.TheVariants.{Decided, Explained, Audited, Judged, Listed, Replayed, Found}
@@ -48,7 +51,7 @@ use Rattle.pmp_tool.specs.declared.outcome.Outcome.TheVariants.{Compared, Import
 use Rattle.pmp_tool.specs.declared.note.Note.{Note}
 use Rattle.pmp_tool.specs.declared.note.Note.TheVariants.{Guessed, Taken}
 use Rattle.pmp_tool.specs.declared.request.Import.{Import}
-use Rattle.pmp_tool.specs.Failures.{refused, unaudited, unimported, unread}
+use Rattle.pmp_tool.specs.Failures.{refused, unaudited, unimported, unplanned, unread}
 use Rattle.pmp_tool.specs.Inputs.{AreBytesOf, CantBeOpened, CantBeRead, Inputs}
 use Rattle.pmp_tool.specs.Words.{bad_word}
 
@@ -127,6 +130,8 @@ RequestSays scripts traces script (Diff diff) (Compared rows) text =
     × DiffSays script diff.old_after new diff.new_after diff.changes rows text
 RequestSays scripts traces script (OfLog import) (Imported note) text =
     ImportSays (traces import.log.now) import note text
+RequestSays scripts traces text (Plan plan) Listed written = Tells plan.hart plan.security plan.form text written
+RequestSays scripts traces script PlanOf Listed text = IsPlanOfScript script text
 RequestSays _ _ _ _ _ _ = ⊥
 
 -- which faults an audit is refused for; several checkers may lack a place
@@ -137,6 +142,12 @@ AuditByRefuses (Some count) script trace fault = SharedAuditRefuses script trace
 -- a script can't be read, which of two is the one on a side
 abbrev pub IsUnread : (known : Option (List ℕ)) (side : Option Side) → Failure → Type 0
 IsUnread known side failure = (fault : Refusal) × CantBeRead MAX_HEADED_SCRIPT known fault × (failure ≡ unread fault side)
+
+-- the fault of a plan, or of a script whose plan is asked for, is the failure
+pub record IsUnplanned (Fails : AnswerFault → Type 0) (failure : Failure) : Type 0 where
+  pub fault : AnswerFault
+  pub is : failure ≡ unplanned fault
+  pub fails : Fails fault
 
 module _ (before after : Option (List ℕ)) where
   -- a call refuses what it is given before a byte is written, or memory or the output failed
@@ -205,3 +216,5 @@ module _ (before after : Option (List ℕ)) where
     -- one script has no other hart
     RequestFails (Harts has_locks) = λ failure. (failure ≡ refused BadFolder) × Keeps before after
     RequestFails (OfLog import) = ImportFails (traces import.log.now) import before after
+    RequestFails (Plan plan) = IsUnplanned (PlanFails plan.hart plan.security plan.form script before after)
+    RequestFails PlanOf = IsUnplanned (PlanOfFails script before after)

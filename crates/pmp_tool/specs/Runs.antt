@@ -1,15 +1,14 @@
 -- What a run of the program answers, and why it gives no answer.
-use Rattle.std.specs.Prelude.{◌≡◌, ◌⊎◌, ℕ, List, Option, Some, None, Err}
+use Rattle.std.specs.Prelude.{◌≡◌, ◌⊎◌, ℕ, List, [], Option, Some, None, option_map, Ok, Err}
 use Rattle.std.specs.Io.KnownBytes.{Appends, Keeps}
-use Rattle.std.proofs.Common.{Bor}
-use Rattle.clap.specs.Words.{Text}
+use Rattle.clap.specs.Words.{Row, Text, fault_of, subcommand_of}
 use Rattle.clap.specs.declared.error.Error.{Error}
 use Rattle.pmp_text.specs.Bytes.{AppendsBeginning}
 use Rattle.pmp_text.specs.declared.refusal.Refusal.{Refusal}
 use Rattle.pmp_text.specs.declared.refusal.Refusal.TheVariants.{Memory, Output}
 use Rattle.pmp_text.specs.declared.trace.reader.TheConstants.{MAX_TRACE}
 use Rattle.pmp_names.specs.declared.address_names.NamesFault.{NamesFault}
-use Rattle.pmp_names.specs.AddressNames.{names_said}
+use Rattle.pmp_names.specs.AddressNames.{Named, names_said}
 use Rattle.pmp_tool.specs.declared.command.Command.{Command}
 use Rattle.pmp_tool.specs.declared.failure.Failure.{Failure}
 use Rattle.pmp_tool.specs.declared.failure.Failure.TheVariants.{Refused, Words}
@@ -19,15 +18,16 @@ use Rattle.pmp_tool.specs.declared.naming.Naming.{Naming}
 use Rattle.pmp_tool.specs.declared.outcome.Outcome.{Outcome}
 use Rattle.pmp_tool.specs.declared.outcome.Outcome.TheVariants.{Told}
 use Rattle.pmp_tool.specs.declared.request.Import.{Import}
-use Rattle.pmp_tool.specs.CommandLines.{IsRefusedCommandLine, MayAskForText, WordsAskFor, WordsAreRefused}
-use Rattle.pmp_tool.specs.Commands.{asked}
+use Rattle.pmp_tool.specs.declared.request.Request.{Request}
+use Rattle.pmp_tool.specs.CommandLines.{IsRefusedCommandLine, MayAskForText, pmp_app}
+use Rattle.pmp_tool.specs.Commands.{asked, asked_of, names_path_in}
 use Rattle.pmp_tool.specs.Failures.{refused, unnamed}
 use Rattle.pmp_tool.specs.HartComparisons.{FolderAnswer, FolderFails}
 use Rattle.pmp_tool.specs.HartImports.{CantMake, Makes, new_folder}
 use Rattle.pmp_tool.specs.Harts.{AreUnfound, IsOfNone, IsOfSome}
 use Rattle.pmp_tool.specs.Inputs.{AreBytesOf, CantBeRead, Folders, Inputs}
 use Rattle.pmp_tool.specs.NamedAnswers.{OneAnswer, OneFails}
-use Rattle.pmp_tool.specs.Names.{IsNamingOf}
+use Rattle.pmp_tool.specs.Names.{columns_of, plain_naming}
 
 module _ (scripts traces : Inputs) (folders : Folders) (command : Command) (before after : Option (List ℕ)) where
   -- what a command asks for was written: of the hart of its script, or of each hart of a folder
@@ -45,52 +45,78 @@ module _ (scripts traces : Inputs) (folders : Folders) (command : Command) (befo
     of_harts : (harts : Harts) (failure : Failure) → IsOfSome folders command harts
         → FolderFails scripts traces command naming harts before after failure → UndoneBy naming failure
 
-  -- with the names of the text at a path
-  abbrev pub DoneWith : (path : List ℕ) → Outcome → Type 0
-  DoneWith path outcome =
-      (naming : Option Naming) × IsNamingOf (traces path) command.request naming × DoneBy naming outcome
-
-  pub data UndoneWith (path : List ℕ) : Failure → Type 0 where
-    no_names : (fault : Refusal) → CantBeRead MAX_TRACE (traces path) fault → Keeps before after
-        → UndoneWith path (refused fault)
-    bad_names : (text : List ℕ) (fault : NamesFault) → AreBytesOf (traces path) text → names_said text ≡ Err fault
-        → Keeps before after → UndoneWith path (unnamed fault)
-    no_room_for_names : Keeps before after → UndoneWith path (refused Memory)
-    undone_by : (naming : Option Naming) (failure : Failure) → IsNamingOf (traces path) command.request naming
-        → UndoneBy naming failure → UndoneWith path failure
-
-  -- with the names that it asks for, where it does
-  abbrev pub DoneAt : Option (Bor (List ℕ)) → Outcome → Type 0
-  DoneAt None = DoneBy None
-  DoneAt (Some path) = DoneWith path.now
-
-  abbrev pub UndoneAt : Option (Bor (List ℕ)) → Failure → Type 0
-  UndoneAt None = UndoneBy None
-  UndoneAt (Some path) = UndoneWith path.now
-
   -- a folder was made where it asks for one, and the scripts at all paths are as before where it doesn't
-  abbrev pub DoneFor : Option (Import × Text) → (made : Inputs) → Outcome → Type 0
-  DoneFor None made outcome = DoneAt command.names outcome × (made ≡ scripts)
-  DoneFor (Some (import, path)) made outcome =
+  abbrev pub DoneFor : Option (Import × Text) → Option Naming → (made : Inputs) → Outcome → Type 0
+  DoneFor None naming made outcome = DoneBy naming outcome × (made ≡ scripts)
+  DoneFor (Some (import, path)) naming made outcome =
       Makes scripts traces command import path made outcome × Keeps before after
 
-  abbrev pub UndoneFor : Option (Import × Text) → Failure → Type 0
-  UndoneFor None failure = UndoneAt command.names failure
-  UndoneFor (Some (import, path)) failure = CantMake scripts traces command import failure × Keeps before after
+  abbrev pub UndoneFor : Option (Import × Text) → Option Naming → Failure → Type 0
+  UndoneFor None naming failure = UndoneBy naming failure
+  UndoneFor (Some (import, path)) naming failure = CantMake scripts traces command import failure × Keeps before after
 
-  abbrev pub Done : (made : Inputs) → Outcome → Type 0
+  abbrev pub Done : Option Naming → (made : Inputs) → Outcome → Type 0
   Done = DoneFor (new_folder command.request)
 
-  abbrev pub Undone : Failure → Type 0
+  abbrev pub Undone : Option Naming → Failure → Type 0
   Undone = UndoneFor (new_folder command.request)
+
+-- ---- what clap found in the words
+
+-- the names that addresses have: those of the text at a path, or none
+abbrev pub AreNamesAt : (traces : Inputs) → (path : Option Text) → List Named → Type 0
+AreNamesAt traces None names = names ≡ []
+AreNamesAt traces (Some path) names = (text : List ℕ) × AreBytesOf (traces path) text × (names_said text ≡ Ok names)
+
+-- the rows of a request are to have them behind them, where there is such a text
+abbrev pub IsNamingAt : (path : Option Text) → List Named → Request → Option Naming → Type 0
+IsNamingAt None names request naming = naming ≡ None
+IsNamingAt (Some path) names request naming =
+    plain_naming naming ≡ option_map (λ columns. (names, columns)) (columns_of request)
+
+module _ (found : Option (Text × List Row)) (scripts traces : Inputs) (folders : Folders) (before after : Option (List ℕ)) where
+  module _ (path : Option Text) where
+    -- it asks for this command, where addresses have the names of the text at the path
+    pub record AsksFor (command : Command) (naming : Option Naming) : Type 0 where
+      pub names : List Named
+      pub are : AreNamesAt traces path names
+      pub asks : asked_of names found ≡ Ok (asked command)
+      pub rows : IsNamingAt path names command.request naming
+
+    -- that was done
+    pub record DoesAt (made : Inputs) (outcome : Outcome) : Type 0 where
+      pub command : Command
+      pub naming : Option Naming
+      pub asks : AsksFor command naming
+      pub done : Done scripts traces folders command before after naming made outcome
+
+    -- why it isn't
+    pub data DoesNotAt : Failure → Type 0 where
+      no_names : (at : Text) (fault : Refusal) → path ≡ Some at → CantBeRead MAX_TRACE (traces at) fault
+          → Keeps before after → DoesNotAt (refused fault)
+      bad_names : (at text : List ℕ) (fault : NamesFault) → path ≡ Some at → AreBytesOf (traces at) text
+          → names_said text ≡ Err fault → Keeps before after → DoesNotAt (unnamed fault)
+      no_room_for_names : Keeps before after → DoesNotAt (refused Memory)
+      -- a word isn't what its place asks for, or numbers make no access
+      refused_word : (names : List Named) (fault : FaultLine) → AreNamesAt traces path names
+          → asked_of names found ≡ Err fault → Keeps before after → DoesNotAt (Refused fault)
+      -- it asks for something of a script that gets no answer
+      undone : (command : Command) (naming : Option Naming) (failure : Failure) → AsksFor command naming
+          → Undone scripts traces folders command before after naming failure → DoesNotAt failure
+
+  abbrev pub Does : (made : Inputs) → Outcome → Type 0
+  Does = DoesAt (names_path_in found)
+
+  abbrev pub DoesNot : Failure → Type 0
+  DoesNot = DoesNotAt (names_path_in found)
 
 -- what the words ask for was written: help or the version, or the answer to a command
 pub data Answers (words : List Text) (scripts traces : Inputs) (folders : Folders) (before after : Option (List ℕ))
     (made : Inputs) : Outcome → Type 0 where
   tells : (text : List ℕ) → MayAskForText words → Appends before after text → made ≡ scripts
       → Answers words scripts traces folders before after made Told
-  does : (command : Command) (outcome : Outcome) → WordsAskFor words (asked command)
-      → Done scripts traces folders command before after made outcome
+  does : (outcome : Outcome) → fault_of pmp_app words ≡ []
+      → Does (subcommand_of pmp_app words) scripts traces folders before after made outcome
       → Answers words scripts traces folders before after made outcome
 
 -- why a text of help, or the version, isn't written wholly
@@ -104,15 +130,12 @@ pub data Fails (words : List Text) (scripts traces : Inputs) (folders : Folders)
   -- clap refuses them
   refused_words : (error : Error) → IsRefusedCommandLine words error → Keeps before after
       → Fails words scripts traces folders before after (Words error)
-  -- a word isn't what its place asks for, or numbers make no access
-  refused_word : (fault : FaultLine) → WordsAreRefused words fault → Keeps before after
-      → Fails words scripts traces folders before after (Refused fault)
   -- there is no memory for what clap makes of them
   no_memory : Keeps before after → Fails words scripts traces folders before after (refused Memory)
   -- they ask for help or the version, which isn't written wholly
   no_text : (failure : Failure) → MayAskForText words → TextFails before after failure
       → Fails words scripts traces folders before after failure
-  -- they ask for something of a script that gets no answer
-  no_command : (command : Command) (failure : Failure) → WordsAskFor words (asked command)
-      → Undone scripts traces folders command before after failure
+  -- clap takes them, and what it finds in them isn't done
+  does_not : (failure : Failure) → fault_of pmp_app words ≡ []
+      → DoesNot (subcommand_of pmp_app words) scripts traces folders before after failure
       → Fails words scripts traces folders before after failure

@@ -1,6 +1,6 @@
 -- What the words of the command line say that clap found.
-use Rattle.std.specs.Prelude.{ℕ, List, Bool, true, false, ◌&&◌, nat_le, Option, Some, None, is_some, Result, Ok}
-use Rattle.std.specs.Prelude.{Err, codes, if◌then◌else◌}
+use Rattle.std.specs.Prelude.{ℕ, List, [], ◌∷◌, Bool, true, false, ◌&&◌, ◌==◌, nat_le, nat_lt, Option, Some, None, is_some}
+use Rattle.std.specs.Prelude.{Result, Ok, Err, codes, if◌then◌else◌, option_and_then, option_map, position}
 use Rattle.std.specs.Option.{ok_or, option_map_or}
 use Rattle.std.specs.Str.{bytes_eq}
 use Rattle.clap.specs.Words.{Row, Text, first_of}
@@ -14,6 +14,7 @@ use Rattle.pmp_tool.specs.declared.fault_line.Place.TheVariants.{Nowhere, Word}
 use Rattle.pmp_text.specs.declared.refusal.Refusal.{Refusal}
 use Rattle.pmp_text.specs.declared.refusal.Refusal.TheVariants.{BadWord}
 use Rattle.pmp_tool.specs.declared.fault_line.FaultLine.{FaultLine}
+use Rattle.pmp_tool.specs.declared.word.Grain.{Grain}
 use Rattle.pmp_tool.specs.declared.word.Smepmp.{Smepmp}
 use Rattle.pmp_tool.specs.declared.word.Xlen.{Xlen}
 use Rattle.pmp_tool.specs.Arguments.{id_of}
@@ -41,6 +42,24 @@ abbrev pub smepmp_named : Text → Option Smepmp
 smepmp_named word =
     if bytes_eq word (codes "yes") then Some (record { is_there = true })
     else (if bytes_eq word (codes "no") then Some (record { is_there = false }) else None)
+
+-- the number that a word says, where it has eight bits
+abbrev pub below_256 : ℕ → Option ℕ
+below_256 number = if nat_lt number 256 then Some number else None
+
+abbrev pub byte_named : Text → Option ℕ
+byte_named word = option_and_then below_256 (word_number word)
+
+-- G of a grain of so many bytes: it has 2^(G+2), from 4 to 4096 (3.7.1.1)
+abbrev pub place_of : (bytes : ℕ) → Option ℕ
+place_of bytes =
+    position (λ grain. grain == bytes)
+    (4 ∷ 8 ∷ 16 ∷ 32 ∷ 64 ∷ 128 ∷ 256 ∷ 512 ∷ 1024 ∷ 2048 ∷ 4096 ∷ [])
+
+-- the grain that a word says in bytes
+abbrev pub grain_named : Text → Option Grain
+grain_named word =
+    option_and_then (λ bytes. option_map (λ place. record { place = place }) (place_of bytes)) (word_number word)
 
 -- a refusal of no single word
 abbrev pub of_no_word : Refusal → FaultLine

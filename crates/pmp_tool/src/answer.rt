@@ -16,6 +16,7 @@ use crate::inputs::Inputs;
 use crate::jobs::processors;
 use crate::note::Note;
 use crate::outcome::Outcome;
+use crate::plan_answers::{answer_plan, answer_plan_of};
 use crate::request::{Audit, Check, Diff, Import, LongAudit, Request, Why};
 use pmp_audit::{
     OpenGate, PIECE, Pace, Side, View, audit, audit_long, audit_shared, check, check_policy, diff,
@@ -76,6 +77,8 @@ fn answer_request<R: Threads + Wait + Sync, I: Inputs, O: Write>(
         Request::Diff(asked) => answer_diff(alloc, script, asked, inputs, out),
         Request::Harts(_) => Err(Failure::from(Refusal::BadFolder)),
         Request::Import(asked) => answer_import(alloc, asked, inputs, out),
+        Request::Plan(asked) => answer_plan(alloc, script, asked, out),
+        Request::PlanOf => answer_plan_of(alloc, script, out),
     }
 }
 

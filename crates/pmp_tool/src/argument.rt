@@ -54,6 +54,13 @@ pub enum Argument {
     Folder,
     /// The folder whose harts are compared.
     Harts,
+    /// The plan.
+    Plan,
+    Mml,
+    Mmwp,
+    Rlb,
+    AsArray,
+    Of,
 }
 
 impl Argument {
@@ -64,7 +71,7 @@ impl Argument {
     {
         use Argument::*;
         match self {
-            Script | Old | Log | Harts => "script",
+            Script | Old | Log | Harts | Plan => "script",
             New => "new",
             Trace => "trace",
             Policy => "policy",
@@ -96,6 +103,11 @@ impl Argument {
             Bursts => "bursts",
             Names => "names",
             Folder => "folder",
+            Mml => "mml",
+            Mmwp => "mmwp",
+            Rlb => "rlb",
+            AsArray => "c",
+            Of => "of",
         }
     }
 
@@ -113,6 +125,7 @@ impl Argument {
             Start => "START",
             Length => "LENGTH",
             Explain | Long | EachWrite | AsScript | Locks | Bursts => "",
+            Mml | Mmwp | Rlb | AsArray | Of => "",
             After | OldAfter | FirstRow | Jobs | Hart | Xlen | Entries | AddressBits => "N",
             Grain => "BYTES",
             Smepmp => "ANSWER",
@@ -120,6 +133,7 @@ impl Argument {
             Log => "LOG",
             Names => "FILE",
             Folder | Harts => "FOLDER",
+            Plan => "PLAN",
             NewAfter => "M",
             Expect => "ANSWER",
             Only => "CHANGE",
@@ -167,6 +181,12 @@ impl Argument {
             Names => help::NAMES,
             Folder => help::FOLDER,
             Harts => help::HARTS_OF,
+            Plan => help::PLAN_PATH,
+            Mml => help::MML,
+            Mmwp => help::MMWP,
+            Rlb => help::RLB,
+            AsArray => help::AS_ARRAY,
+            Of => help::OF,
         }
     }
 
@@ -179,7 +199,9 @@ impl Argument {
         use Argument::*;
         let (id, name, help) = (self.id(), self.name(), self.help());
         match self {
-            Explain | Long | EachWrite | Locks | Bursts => flag(alloc, id, help),
+            Explain | Long | EachWrite | Locks | Bursts | Mml | Mmwp | Rlb | AsArray | Of => {
+                flag(alloc, id, help)
+            }
             AsScript => flag(alloc, id, help).long("script"),
             After
             | OldAfter
@@ -209,7 +231,8 @@ impl Argument {
             | Length
             | Log
             | Format
-            | Harts => { word(alloc, id, name, help) }
+            | Harts
+            | Plan => { word(alloc, id, name, help) }
         }
     }
 
@@ -223,6 +246,7 @@ impl Argument {
             Argument::Kind => "fetch, load or store",
             Argument::Expect => "allow or fault",
             Argument::Only => "more or less",
+            Argument::Start => "a number, or with --names NAME or NAME+OFFSET",
             Argument::Accept =>
                 "the name of a finding, as mmwp-off, perhaps with a line, as mmwp-off:7",
             Argument::FirstRow => "a number from 1 on",
@@ -231,6 +255,9 @@ impl Argument {
             Argument::Xlen => "32 or 64",
             Argument::Smepmp => "yes or no",
             Argument::Folder => "a path, without --hart, and a log that isn't stdin",
+            Argument::Entries => "a number from 0 to 64",
+            Argument::Grain => "a number of bytes: 4, 8, 16 and so on to 4096",
+            Argument::AddressBits => "a number from 34 to 56, or with --xlen 32 from 32 to 34",
             _ => "a number",
         }
     }

@@ -1,10 +1,11 @@
 //! What the program's words ask for.
 
-ghost use Rattle.std.specs.Prelude.{◌≡◌, option_map};
+ghost use Rattle.std.specs.Prelude.{◌≡◌, map, option_map};
 ghost use Rattle.clap.specs.Words.{found_of, rows_of, subcommand_rows_of};
 ghost use Rattle.pmp_tool.specs.Commands.{access_in, access_task, asked, asked_of, audit_in, check_in, command_named};
 ghost use Rattle.pmp_tool.specs.Commands.{diff_in, folder_in, format_in, import_in, long_audit_in, options_in, options_with};
-ghost use Rattle.pmp_tool.specs.Commands.{path_in, policy_in, second_in, show_in, task_in};
+ghost use Rattle.pmp_names.specs.NameLists.{named};
+ghost use Rattle.pmp_tool.specs.Commands.{names_path_in, path_in, plan_in, plan_of_in, policy_in, second_in, show_in, start_in, task_in};
 ghost use Rattle.pmp_tool.specs.Commands.{task_of, whole_audit_in, why_in};
 ghost use Rattle.pmp_tool.specs.Words.{result_map};
 
@@ -12,13 +13,16 @@ use crate::argument::Argument;
 use crate::command_name::CommandName;
 use crate::expected::Expected;
 use crate::fault_line::{FaultLine, Place};
+use crate::hart_words::{is_hart_said, read_hart, read_security};
 use crate::jobs::JOBS;
-use crate::request::{Audit, Check, Diff, Import, LongAudit, Request, Why};
+use crate::request::{Audit, Check, Diff, Import, LongAudit, Plan, Request, Why};
 use crate::word::{Smepmp, Xlen, asked, count, is_bare_word, is_set, is_used, needed, word};
 use clap::ArgMatches;
 use pmp_audit::{AskedChanges, Pace, View};
 use pmp_core::Access;
 use pmp_import::{Format, Options};
+use pmp_names::{AddressName, read_address};
+use pmp_plan::Form;
 use pmp_share::CHECKERS;
 use pmp_text::Refusal;
 
@@ -27,8 +31,6 @@ use pmp_text::Refusal;
 pub struct Command<'a> {
     /// The path of the script.
     pub script: &'a str,
-    /// The path of the names, where rows are to have names.
-    pub names: Option<&'a str>,
     pub request: Request<'a>,
 }
 
@@ -49,30 +51,40 @@ fn found<'b, 'a>(matches: &'b ArgMatches<'a>) -> Option<(&'a str, &'b ArgMatches
     matches.subcommand()
 }
 
-/// What the subcommand that `clap` found in the words asks for.
+/// The path of the names of addresses, where the words ask for names.
+pub fn names_path<'a>(matches: &ArgMatches<'a>) -> Option<&'a str>
+    ensures { option_map (λ path. path.now) result ≡ names_path_in (subcommand_rows_of matches.now) }
+{
+    let (_, words) = found(matches)?;
+    word(words, Argument::Names)
+}
+
+/// What the subcommand that `clap` found in the words asks for, where addresses have these names.
 #[tactic(auto, unfolding(crate::specs::Commands::asked_of))]
-pub fn read_command<'a>(matches: &ArgMatches<'a>) -> Result<Command<'a>, FaultLine>
-    ensures { result_map asked result ≡ asked_of (subcommand_rows_of matches.now) }
+pub fn read_command<'a>(
+    matches: &ArgMatches<'a>,
+    names: &[AddressName<'_>],
+) -> Result<Command<'a>, FaultLine>
+    ensures { result_map asked result ≡ asked_of (map named names.now) (subcommand_rows_of matches.now) }
 {
     let (name, words) = found(matches).ok_or(Refusal::BadWord)?;
     let name = read_name(name).ok_or(Refusal::BadWord)?;
     let script = path(words, Argument::Script)?;
-    let names = word(words, Argument::Names);
-    let request = read_request(name, words)?;
-    Ok(Command {
-        script,
-        names,
-        request,
-    })
+    let request = read_request(name, words, names)?;
+    Ok(Command { script, request })
 }
 
 /// What the command with this name asks for of the script.
-fn read_request<'a>(name: CommandName, words: &ArgMatches<'a>) -> Result<Request<'a>, FaultLine>
-    ensures { result_map task_of result ≡ task_in name (rows_of (found_of words.now)) }
+fn read_request<'a>(
+    name: CommandName,
+    words: &ArgMatches<'a>,
+    names: &[AddressName<'_>],
+) -> Result<Request<'a>, FaultLine>
+    ensures { result_map task_of result ≡ task_in (map named names.now) name (rows_of (found_of words.now)) }
 {
     match name {
-        CommandName::Check => read_check(words),
-        CommandName::Why => read_why(words),
+        CommandName::Check => read_check(words, names),
+        CommandName::Why => read_why(words, names),
         CommandName::Audit => read_audit(words),
         CommandName::Policy => read_policy(words),
         CommandName::Dump if is_set(words, Argument::AsScript) => read_show(View::Script, words),
@@ -85,6 +97,7 @@ fn read_request<'a>(name: CommandName, words: &ArgMatches<'a>) -> Result<Request
         CommandName::Diff => read_diff(words),
         CommandName::Harts => Ok(Request::Harts(is_set(words, Argument::Locks))),
         CommandName::Import => read_import(words),
+        CommandName::Plan => read_plan(words),
     }
 }
 
@@ -107,12 +120,12 @@ fn second<'a>(words: &ArgMatches<'a>, argument: Argument) -> Result<&'a str, Fau
     Ok(second)
 }
 
-fn read_check<'a>(words: &ArgMatches) -> Result<Request<'a>, FaultLine>
-    ensures { result_map task_of result ≡ check_in (rows_of (found_of words.now)) }
+fn read_check<'a>(words: &ArgMatches, names: &[AddressName<'_>]) -> Result<Request<'a>, FaultLine>
+    ensures { result_map task_of result ≡ check_in (map named names.now) (rows_of (found_of words.now)) }
 {
     let expected = asked(words, Argument::Expect)?.unwrap_or(Expected::Allow);
     let after = asked(words, Argument::After)?;
-    let access = read_access(words)?;
+    let access = read_access(words, names)?;
     Ok(Request::Check(Check {
         access,
         after,
@@ -121,11 +134,11 @@ fn read_check<'a>(words: &ArgMatches) -> Result<Request<'a>, FaultLine>
     }))
 }
 
-fn read_why<'a>(words: &ArgMatches) -> Result<Request<'a>, FaultLine>
-    ensures { result_map task_of result ≡ why_in (rows_of (found_of words.now)) }
+fn read_why<'a>(words: &ArgMatches, names: &[AddressName<'_>]) -> Result<Request<'a>, FaultLine>
+    ensures { result_map task_of result ≡ why_in (map named names.now) (rows_of (found_of words.now)) }
 {
     let after = asked(words, Argument::After)?;
-    let access = read_access(words)?;
+    let access = read_access(words, names)?;
     Ok(Request::Why(Why {
         access,
         after,
@@ -133,13 +146,21 @@ fn read_why<'a>(words: &ArgMatches) -> Result<Request<'a>, FaultLine>
     }))
 }
 
+/// The address that the word START says, as a number or by a name.
+fn read_start(words: &ArgMatches, names: &[AddressName<'_>]) -> Result<u64, FaultLine>
+    ensures { result ≡ start_in (map named names.now) (rows_of (found_of words.now)) }
+{
+    let word = path(words, Argument::Start)?;
+    read_address(names, word.as_bytes()).ok_or(FaultLine::of_word(Argument::Start))
+}
+
 /// The access that four words describe. All words are read before the access is made.
-fn read_access(words: &ArgMatches) -> Result<Access, FaultLine>
-    ensures { result_map access_task result ≡ access_in (rows_of (found_of words.now)) }
+fn read_access(words: &ArgMatches, names: &[AddressName<'_>]) -> Result<Access, FaultLine>
+    ensures { result_map access_task result ≡ access_in (map named names.now) (rows_of (found_of words.now)) }
 {
     let mode = needed(words, Argument::Mode)?;
     let kind = needed(words, Argument::Kind)?;
-    let start = needed(words, Argument::Start)?;
+    let start = read_start(words, names)?;
     let length = needed(words, Argument::Length)?;
     Ok(Access::new(mode, kind, start, length)?)
 }
@@ -213,6 +234,36 @@ fn read_diff<'a>(words: &ArgMatches<'a>) -> Result<Request<'a>, FaultLine>
             has_locks: is_set(words, Argument::Locks),
         },
     }))
+}
+
+fn read_plan<'a>(words: &ArgMatches) -> Result<Request<'a>, FaultLine>
+    ensures { result_map task_of result ≡ plan_in (rows_of (found_of words.now)) }
+{
+    if is_set(words, Argument::Of) {
+        return read_plan_of(words);
+    }
+    let hart = read_hart(words)?;
+    let security = read_security(words);
+    let form = if is_set(words, Argument::AsArray) {
+        Form::Array
+    } else {
+        Form::Script
+    };
+    Ok(Request::Plan(Plan {
+        hart,
+        security,
+        form,
+    }))
+}
+
+/// The plan of a script, whose hart and `mseccfg` are the script's own.
+fn read_plan_of<'a>(words: &ArgMatches) -> Result<Request<'a>, FaultLine>
+    ensures { result_map task_of result ≡ plan_of_in (rows_of (found_of words.now)) }
+{
+    if is_hart_said(words) || is_set(words, Argument::AsArray) {
+        return Err(FaultLine::from(Refusal::BadWord));
+    }
+    Ok(Request::PlanOf)
 }
 
 fn read_format(words: &ArgMatches) -> Result<Format, FaultLine>

@@ -22,11 +22,12 @@ pub enum CommandName {
     Diff,
     Harts,
     Import,
+    Plan,
 }
 
 impl CommandName {
     /// All commands, in the order of the help.
-    pub const ALL: [CommandName; 13] = [
+    pub const ALL: [CommandName; 14] = [
         CommandName::Check,
         CommandName::Why,
         CommandName::Audit,
@@ -40,6 +41,7 @@ impl CommandName {
         CommandName::Diff,
         CommandName::Harts,
         CommandName::Import,
+        CommandName::Plan,
     ];
 
     /// The word that names it.
@@ -60,6 +62,7 @@ impl CommandName {
             CommandName::Diff => "diff",
             CommandName::Harts => "harts",
             CommandName::Import => "import",
+            CommandName::Plan => "plan",
         }
     }
 
@@ -79,6 +82,7 @@ impl CommandName {
             CommandName::Diff => help::DIFF,
             CommandName::Harts => help::HARTS,
             CommandName::Import => help::IMPORT,
+            CommandName::Plan => help::PLAN,
         }
     }
 
@@ -98,6 +102,7 @@ impl CommandName {
             CommandName::Diff => topics::MORE_OF_DIFF,
             CommandName::Harts => topics::MORE_OF_HARTS,
             CommandName::Import => topics::MORE_OF_IMPORT,
+            CommandName::Plan => topics::MORE_OF_PLAN,
         }
     }
 
@@ -107,8 +112,10 @@ impl CommandName {
     {
         use Argument::*;
         match self {
-            CommandName::Check => &[Script, Explain, Mode, Kind, Start, Length, After, Expect],
-            CommandName::Why => &[Script, Explain, Mode, Kind, Start, Length, After],
+            CommandName::Check => &[
+                Script, Explain, Mode, Kind, Start, Length, After, Expect, Names,
+            ],
+            CommandName::Why => &[Script, Explain, Mode, Kind, Start, Length, After, Names],
             CommandName::Audit => &[Script, Explain, Trace, Checkers, Long, Jobs, FirstRow],
             CommandName::Policy => &[Script, Explain, Policy, EachWrite, Names],
             CommandName::Dump => &[Script, Explain, After, AsScript],
@@ -131,6 +138,20 @@ impl CommandName {
                 Smepmp,
                 Bursts,
                 Folder,
+            ],
+            CommandName::Plan => &[
+                Plan,
+                Explain,
+                Xlen,
+                Entries,
+                Grain,
+                AddressBits,
+                Smepmp,
+                Mml,
+                Mmwp,
+                Rlb,
+                AsArray,
+                Of,
             ],
         }
     }

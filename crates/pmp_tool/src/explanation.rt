@@ -18,7 +18,8 @@ use crate::fault_line::{FaultLine, Place};
 use crate::inputs::Inputs;
 use crate::kept::{Kept, KeptInput};
 use fields::{
-    is_policy_address, is_trace_address, names_field, policy_field, policy_place, trace_field,
+    is_policy_address, is_range_address, is_trace_address, names_field, plan_field, policy_field,
+    policy_place, trace_field,
 };
 use names::write_names;
 use pmp_audit::Side;
@@ -162,6 +163,8 @@ fn is_address(place: Place) -> bool {
         Place::Word(argument) => matches!(argument, Argument::Start),
         Place::TraceRow(fault) => is_trace_address(fault.field),
         Place::PolicyRow(fault) => is_policy_address(fault.field),
+        Place::NamesRow(fault) => is_range_address(fault.field),
+        Place::PlanRow(fault) => is_range_address(fault.field),
         _ => false,
     }
 }
@@ -187,6 +190,12 @@ fn wanted_field(line: &FaultLine) -> Option<&'static str> {
         (Refusal::BadRow, Place::TraceRow(fault)) => trace_field(fault.field?),
         (Refusal::BadRow, Place::PolicyRow(fault)) => policy_field(fault.field?),
         (Refusal::BadRow, Place::NamesRow(fault)) => names_field(fault.field?),
+        (Refusal::BadRow, Place::PlanRow(fault)) => plan_field(fault.field?),
+        (Refusal::BadHeader, Place::PlanRow(_)) => Some("first,last,m,su,locked,name"),
+        (Refusal::PastEnd, Place::PlanRow(_)) => Some(
+            "a last byte that the hart has an address for",
+        ),
+        (Refusal::TooLong, Place::PlanRow(_)) => Some("at most 1048576 bytes of a plan"),
         _ => None,
     }
 }
@@ -195,6 +204,9 @@ fn wanted_field(line: &FaultLine) -> Option<&'static str> {
 fn input_of<'a>(line: &FaultLine, kept: &'a Kept) -> Option<&'a KeptInput> {
     match (line.place, line.refusal) {
         (Place::ScriptLine(_) | Place::Script(Side::Old) | Place::LineOf(Side::Old, _), _) => {
+            kept.inputs().first()
+        }
+        (Place::PlanRow(_) | Place::PlanRows(..) | Place::PlanEntries { .. }, _) => {
             kept.inputs().first()
         }
         (Place::Nowhere, Refusal::TooLong | Refusal::BadHeader | Refusal::Input) => kept
@@ -220,6 +232,12 @@ fn spot_of<'a>(line: &FaultLine, input: &'a KeptInput) -> Option<Spot<'a>> {
             let header = Spot::header(&input.bytes);
             let place = fault.field.map(|index| policy_place(header, index));
             Spot::of_row(&input.bytes, fault.row, place)
+        }
+        Place::PlanRow(fault) if fault.row > 0 => {
+            Spot::of_row(&input.bytes, fault.row, fault.field)
+        }
+        Place::PlanRows(_, row) | Place::PlanEntries { row, .. } => {
+            Spot::of_row(&input.bytes, row, None)
         }
         _ if line.refusal == Refusal::BadHeader => Spot::of_row(&input.bytes, 0, None),
         _ => None,

@@ -3,7 +3,7 @@
 ghost use Rattle.std.specs.Prelude.{◌≡◌, ◌≤◌, IfSome, OnOk};
 ghost use Rattle.std.specs.Io.KnownBytes.{Appends};
 ghost use Rattle.pmp_text.specs.declared.refusal.Refusal.TheVariants.{Memory, Output};
-ghost use Rattle.pmp_tool.specs.Failures.{Tells, failure_status, failure_text, in_memory, of_hart, refused, unaudited, unimported, unnamed, unparsed, unread};
+ghost use Rattle.pmp_tool.specs.Failures.{Tells, failure_status, failure_text, in_memory, of_hart, refused, unaudited, unimported, unnamed, unparsed, unplanned, unread};
 ghost use Rattle.pmp_tool.specs.declared.failure.Failure.TheVariants.{Refused};
 
 use crate::fault_line::{FaultLine, Place};
@@ -12,6 +12,7 @@ use clap::error::ErrorKind;
 use pmp_audit::{AuditFault, Side};
 use pmp_import::ImportFault;
 use pmp_names::{HART_NAME, NamesFault};
+use pmp_plan::AnswerFault;
 use pmp_text::{InputFault, OutputFault, Refusal};
 use std::alloc::AllocError;
 use std::io::Write;
@@ -147,6 +148,25 @@ impl From<ImportFault> for Failure {
             refusal: fault.kind,
             place: Place::of_log(fault),
         })
+    }
+}
+
+impl From<AnswerFault> for Failure {
+    ghost from_gives = { λ fault failure. failure ≡ unplanned fault };
+
+    fn from(fault: AnswerFault) -> Failure {
+        match fault {
+            AnswerFault::Text(fault) => Failure::Refused(FaultLine {
+                refusal: fault.kind,
+                place: Place::PlanRow(fault),
+            }),
+            AnswerFault::Script(fault) => Failure::from(AuditFault::Script(fault)),
+            AnswerFault::Plan(fault) => Failure::Refused(FaultLine {
+                refusal: fault.refusal(),
+                place: Place::of_plan(fault),
+            }),
+            AnswerFault::Output => Failure::from(Refusal::Output),
+        }
     }
 }
 

@@ -4,7 +4,8 @@ ghost use Rattle.std.specs.Prelude.{◌≡◌, Some, OnOk, OnErr};
 ghost use Rattle.std.specs.Io.KnownBytes.{Appends};
 ghost use Rattle.pmp_text.specs.Bytes.{AppendsBeginning};
 ghost use Rattle.pmp_tool.specs.FaultLines.{fault_text, hart_line_text, line_text, place_in_log};
-ghost use Rattle.pmp_tool.specs.FaultLines.{place_in_names, place_of, place_text, side_text};
+ghost use Rattle.pmp_names.specs.AddressNames.{next_row};
+ghost use Rattle.pmp_tool.specs.FaultLines.{place_in_names, place_in_plan, place_of, place_text, side_text};
 ghost use Rattle.pmp_tool.specs.LineLengths.{HartLineFitsLaw, LineFitsLaw};
 ghost use Rattle.pmp_tool.specs.Commands.{access_line};
 ghost use Rattle.pmp_tool.specs.declared.fault_line.Place.TheVariants.{Nowhere};
@@ -15,6 +16,7 @@ use pmp_audit::{AuditFault, Side};
 use pmp_core::AccessFault;
 use pmp_import::ImportFault;
 use pmp_names::{HART_NAME, NamesFault};
+use pmp_plan::PlanFault;
 use pmp_text::{OutputFault, Refusal, ScriptFault, TraceFault, write_out};
 use std::fmt;
 use std::fmt::Write as TextWrite;
@@ -41,6 +43,12 @@ pub enum Place {
     LogLine(ImportFault),
     /// In a row of the names, from 1.
     NamesRow(NamesFault),
+    /// In a row of the plan, from 1, or in no row of it.
+    PlanRow(TraceFault),
+    /// In two rows of the plan, from 1.
+    PlanRows(u64, u64),
+    /// In the row of the plan that takes the most entries, of those that were found.
+    PlanEntries { row: u64, takes: u64, found: u64 },
 }
 
 impl Place {
@@ -85,6 +93,41 @@ impl Place {
     }
 }
 
+impl Place {
+    /// Where this fault of a plan is.
+    pub fn of_plan(fault: PlanFault) -> Place
+        ensures { result ≡ place_in_plan fault }
+    {
+        let kind = fault.refusal();
+        match fault {
+            PlanFault::Overlap { row, other } => Place::PlanRows(number(row), number(other)),
+            PlanFault::TooFine { row, field } => Place::PlanRow(TraceFault {
+                kind,
+                row: number(row),
+                field: Some(field),
+            }),
+            PlanFault::PastEnd { row } | PlanFault::BadPair { row } => Place::PlanRow(TraceFault {
+                kind,
+                row: number(row),
+                field: None,
+            }),
+            PlanFault::FewEntries { found, row, takes } => Place::PlanEntries {
+                row: number(row),
+                takes: takes as u64,
+                found: found as u64,
+            },
+            _ => Place::Nowhere,
+        }
+    }
+}
+
+/// The number of a row, from 1.
+fn number(index: usize) -> u64
+    ensures { result ≡ next_row index }
+{
+    (index as u64).saturating_add(1)
+}
+
 fn side_word(side: Side) -> &'static str
     ensures { result.now ≡ side_text side }
 {
@@ -108,12 +151,18 @@ impl fmt::Display for Place {
             Place::LineOf(side, fault) => write!(f, "{} line {}: ", side_word(side), fault.line),
             Place::LogLine(fault) => write!(f, "log line {}: ", fault.line),
             Place::NamesRow(fault) => write!(f, "names row {}: ", fault.row),
+            Place::PlanRow(fault) if fault.row == 0 => write!(f, "plan: "),
+            Place::PlanRow(fault) => write!(f, "plan row {}: ", fault.row),
+            Place::PlanRows(one, other) => write!(f, "plan rows {one} and {other}: "),
+            Place::PlanEntries { row, takes, found } => {
+                write!(f, "plan row {row} takes {takes} of {found} entries: ")
+            }
         }
     }
 }
 
-/// The bytes of the longest line: its number has 20 digits, and the refusal's name 11 letters.
-const LONGEST_LINE: usize = 62;
+/// The bytes of the longest line: its three numbers have 20 digits each, and the refusal's name 11 letters.
+const LONGEST_LINE: usize = 118;
 
 /// The bytes of the longest line that begins with a hart's name, a colon and a blank behind the program's.
 const LONGEST_OF_HART: usize = LONGEST_LINE + HART_NAME + 2;

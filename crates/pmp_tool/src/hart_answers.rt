@@ -170,7 +170,6 @@ fn answer_on<R: Threads + Wait + Sync, I: Inputs>(
     let new = new_on(alloc, harts, command.request, name)?;
     let one = Command {
         script: script.as_str(),
-        names: command.names,
         request: command.request.with_new(new.as_str()),
     };
     let (outcome, alone) = answer_alone(rt, alloc, one, hart, inputs)?;

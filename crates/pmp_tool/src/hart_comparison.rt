@@ -78,7 +78,6 @@ fn compare_harts<R: Threads + Wait + Sync, I: Inputs, O: Write>(
     let script = path_on(alloc, true, command.script, first.name.as_str())?;
     let one = Command {
         script: script.as_str(),
-        names: command.names,
         request: Request::Diff(Diff {
             new: command.script,
             old_after: None,

@@ -38,6 +38,7 @@ fn takes_folder(request: Request<'_>) -> bool
         Request::Show(View::Runs | View::Entries, _) | Request::Writes | Request::Diff(_) => true,
         Request::Lint(_) | Request::Harts(_) => true,
         Request::LongAudit(_) | Request::Show(..) | Request::Import(_) => false,
+        Request::Plan(_) | Request::PlanOf => false,
     }
 }
 

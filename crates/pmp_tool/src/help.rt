@@ -82,7 +82,8 @@ pub const MODE: &str = "The mode of the access: M, S or U";
 
 pub const KIND: &str = "The kind of the access: fetch, load or store";
 
-pub const START: &str = "The address of its first byte, a number";
+pub const START: &str =
+    "The address of its first byte: a number, or with --names NAME or NAME+OFFSET";
 
 pub const LENGTH: &str = "How many bytes it has, a number from 1 to 4096; it ends at or below 2^56";
 
@@ -123,10 +124,10 @@ pub const HART: &str =
     "Takes the registers of hart N; those of the first one that writes without this option";
 
 pub const XLEN: &str =
-    "Says that XLEN is N, 32 or 64; it is 32 where the log shows so without this option";
+    "Says that XLEN is N, 32 or 64; without this option it is 64, or 32 where a log shows so";
 
 pub const HART_ENTRIES: &str =
-    "Says that the hart has N entries; it has 16 without this option, or 64 where one behind them has a value";
+    "Says that the hart has N entries; without this option it has 16, or 64 where a log has a value of a later one";
 
 pub const GRAIN: &str =
     "Says that the hart has a grain of so many bytes; it has 4 without this option";
@@ -144,4 +145,24 @@ pub const FOLDER: &str =
     there yet";
 
 pub const NAMES: &str =
-    "Writes the names that each row's bytes have behind it; the file has the line first,last,name and one for each name";
+    "Takes names of addresses from FILE, which has the line first,last,name and one for each name: each row has those of \
+    its bytes behind it, and START may be one";
+
+pub const PLAN: &str =
+    "Writes the CSR writes for a plan: a script of version 3, which leaves each byte the rights that the plan has";
+
+pub const PLAN_PATH: &str =
+    "The path of a plan of at most 1048576 bytes, with --of that of a script, or stdin for standard input";
+
+pub const MML: &str = "Writes them for a hart with MML set";
+
+pub const MMWP: &str =
+    "Writes them for a hart with MMWP set: M-mode, too, reaches no byte that the plan doesn't have";
+
+pub const RLB: &str = "Writes them for a hart with RLB set: its locks are bypassed";
+
+pub const AS_ARRAY: &str = "Writes an array in C of CSR numbers and values in place of a script";
+
+pub const OF: &str =
+    "Writes the plan that the registers of a script amount to, after all its publications; it takes no other option but \
+    --explain";

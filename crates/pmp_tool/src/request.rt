@@ -1,13 +1,15 @@
 //! What is asked for of a script.
 
-ghost use Rattle.std.specs.Prelude.{◌≡◌, ℕ, ◌≤◌, Some};
+ghost use Rattle.std.specs.Prelude.{◌≡◌, ℕ, ◌≤◌, None, Some};
+ghost use Rattle.pmp_core.specs.Hart.{hart_fault};
 ghost use Rattle.pmp_share.specs.declared.opening.TheConstants.{CHECKERS};
 
 use crate::expected::Expected;
 use pmp_audit::{AskedChanges, Pace, View};
-use pmp_core::Access;
+use pmp_core::{Access, Profile};
 use pmp_import::{Format, Options};
 use pmp_lint::Accepted;
+use pmp_plan::{Form, Security};
 use pmp_share::CHECKERS;
 use pmp_text::When;
 
@@ -77,6 +79,17 @@ pub struct Diff<'a> {
     pub changes: AskedChanges,
 }
 
+/// The writes for a plan.
+#[derive(Clone, Copy)]
+pub struct Plan {
+    /// The hart that they are for, which was reset.
+    pub hart: Profile,
+    /// The bits of `mseccfg` that they leave.
+    pub security: Security,
+    pub form: Form,
+    ghost made: { hart_fault hart ≡ None },
+}
+
 /// What is asked for of a script.
 #[derive(Clone, Copy)]
 pub enum Request<'a> {
@@ -95,4 +108,8 @@ pub enum Request<'a> {
     /// Where the harts of a folder differ, and whether in their locks too.
     Harts(bool),
     Import(Import<'a>),
+    /// The writes for the plan that stands in the script's place.
+    Plan(Plan),
+    /// The plan that the registers of a script amount to.
+    PlanOf,
 }

@@ -1,19 +1,20 @@
 //! The program: from words to an exit status.
 
-ghost use Rattle.std.specs.Prelude.{◌≡◌, ◌⊎◌, ℕ, ◌≤◌, List, map, IfOk, IfErr, string_bytes};
+ghost use Rattle.std.specs.Prelude.{◌≡◌, ◌⊎◌, ℕ, ◌≤◌, List, map, IfOk, IfErr, None, Some, string_bytes};
 ghost use Rattle.std.specs.Io.KnownBytes.{Appends, Keeps};
 ghost use Rattle.pmp_tool.specs.CommandLines.{AsksForPieces};
 ghost use Rattle.pmp_tool.specs.Explanations.{TellsAndExplains};
 ghost use Rattle.pmp_tool.specs.Failures.{failure_status};
 ghost use Rattle.pmp_tool.specs.Notes.{Notes};
 ghost use Rattle.pmp_tool.specs.CommandAnswers.{outcome_status};
-ghost use Rattle.pmp_tool.specs.Runs.{Answers, Done, DoneAt, DoneBy, DoneWith, Fails, TextFails, Undone, UndoneAt};
-ghost use Rattle.pmp_tool.specs.Runs.{UndoneBy, UndoneWith};
+ghost use Rattle.clap.specs.Words.{subcommand_rows_of};
+ghost use Rattle.pmp_tool.specs.Runs.{Answers, Does, DoesAt, DoesNot, DoesNotAt, Done, DoneBy, Fails, TextFails, Undone};
+ghost use Rattle.pmp_tool.specs.Runs.{UndoneBy};
 ghost use Rattle.pmp_tool.specs.declared.failure.Failure.{Failure};
 ghost use Rattle.pmp_tool.specs.declared.outcome.Outcome.{Outcome};
 ghost use Rattle.pmp_tool.specs.declared.outcome.Outcome.TheVariants.{Told};
 
-use crate::command::{Command, read_command};
+use crate::command::{Command, names_path, read_command};
 use crate::command_line::parse_words;
 use crate::explanation::tell_and_explain;
 use crate::failure::Failure;
@@ -25,6 +26,7 @@ use crate::inputs::Inputs;
 use crate::naming::Naming;
 use crate::note::tell_note;
 use crate::outcome::Outcome;
+use clap::ArgMatches;
 use pmp_names::read_names;
 use pmp_text::write_out;
 use std::alloc::Global;
@@ -95,10 +97,68 @@ fn run<R: Threads + Wait + Sync, I: Inputs, O: Write>(
         (O.contents out.old) (O.contents out.new)) }
 {
     match parse_words(alloc, words) {
-        Ok(matches) => answer_all(rt, alloc, read_command(&matches)?, inputs, out),
+        Ok(matches) => answer_words(rt, alloc, &matches, inputs, out),
         Err(error) if error.use_stderr() => Err(Failure::from(error)),
         Err(text) => tell(alloc, &text, out),
     }
+}
+
+/// Answers what `clap` found in the words.
+fn answer_words<R: Threads + Wait + Sync, I: Inputs, O: Write>(
+    rt: &R,
+    alloc: Global,
+    matches: &ArgMatches<'_>,
+    inputs: &mut I,
+    out: &mut O,
+) -> Result<Outcome, Failure>
+    ensures ok { IfOk result (Does (subcommand_rows_of matches.now) (I.scripts inputs.old) (I.traces inputs.old)
+        (I.folders inputs.old) (O.contents out.old) (O.contents out.new) (I.scripts inputs.new)) }
+    ensures err { IfErr result (DoesNot (subcommand_rows_of matches.now) (I.scripts inputs.old) (I.traces inputs.old)
+        (I.folders inputs.old) (O.contents out.old) (O.contents out.new)) }
+{
+    match names_path(matches) {
+        None => answer_without(rt, alloc, matches, inputs, out),
+        Some(path) => answer_with(rt, alloc, matches, path, inputs, out),
+    }
+}
+
+/// Answers it where addresses have no names.
+fn answer_without<R: Threads + Wait + Sync, I: Inputs, O: Write>(
+    rt: &R,
+    alloc: Global,
+    matches: &ArgMatches<'_>,
+    inputs: &mut I,
+    out: &mut O,
+) -> Result<Outcome, Failure>
+    ensures ok { IfOk result (DoesAt (subcommand_rows_of matches.now) (I.scripts inputs.old) (I.traces inputs.old)
+        (I.folders inputs.old) (O.contents out.old) (O.contents out.new) None (I.scripts inputs.new)) }
+    ensures err { IfErr result (DoesNotAt (subcommand_rows_of matches.now) (I.scripts inputs.old) (I.traces inputs.old)
+        (I.folders inputs.old) (O.contents out.old) (O.contents out.new) None) }
+{
+    let command = read_command(matches, &[])?;
+    answer_all(rt, alloc, command, None, inputs, out)
+}
+
+/// Answers it where addresses have the names of the text at this path.
+fn answer_with<R: Threads + Wait + Sync, I: Inputs, O: Write>(
+    rt: &R,
+    alloc: Global,
+    matches: &ArgMatches<'_>,
+    path: &str,
+    inputs: &mut I,
+    out: &mut O,
+) -> Result<Outcome, Failure>
+    ensures ok { IfOk result (DoesAt (subcommand_rows_of matches.now) (I.scripts inputs.old) (I.traces inputs.old)
+        (I.folders inputs.old) (O.contents out.old) (O.contents out.new) (Some path.now) (I.scripts inputs.new)) }
+    ensures err { IfErr result (DoesNotAt (subcommand_rows_of matches.now) (I.scripts inputs.old) (I.traces inputs.old)
+        (I.folders inputs.old) (O.contents out.old) (O.contents out.new) (Some path.now)) }
+{
+    let text = inputs.trace(path)?;
+    let names = read_names(alloc, &text)?;
+    inputs.forget();
+    let command = read_command(matches, &names)?;
+    let naming = Naming::of(&names, command.request);
+    answer_all(rt, alloc, command, naming, inputs, out)
 }
 
 /// Answers a command.
@@ -106,59 +166,18 @@ fn answer_all<R: Threads + Wait + Sync, I: Inputs, O: Write>(
     rt: &R,
     alloc: Global,
     command: Command<'_>,
+    naming: Option<Naming<'_>>,
     inputs: &mut I,
     out: &mut O,
 ) -> Result<Outcome, Failure>
     ensures ok { IfOk result (Done (I.scripts inputs.old) (I.traces inputs.old) (I.folders inputs.old) command.entry
-        (O.contents out.old) (O.contents out.new) (I.scripts inputs.new)) }
+        (O.contents out.old) (O.contents out.new) naming.entry (I.scripts inputs.new)) }
     ensures err { IfErr result (Undone (I.scripts inputs.old) (I.traces inputs.old) (I.folders inputs.old)
-        command.entry (O.contents out.old) (O.contents out.new)) }
+        command.entry (O.contents out.old) (O.contents out.new) naming.entry) }
 {
     if let Some((import, folder)) = new_folder(command.request) {
         return import_harts(rt, alloc, command, import, folder, inputs);
     }
-    answer_named(rt, alloc, command, inputs, out)
-}
-
-/// Answers a command that makes no folder, with the names that it asks for.
-fn answer_named<R: Threads + Wait + Sync, I: Inputs, O: Write>(
-    rt: &R,
-    alloc: Global,
-    command: Command<'_>,
-    inputs: &mut I,
-    out: &mut O,
-) -> Result<Outcome, Failure>
-    ensures ok { IfOk result (DoneAt (I.scripts inputs.old) (I.traces inputs.old) (I.folders inputs.old) command.entry
-        (O.contents out.old) (O.contents out.new) command.entry.names) }
-    ensures err { IfErr result (UndoneAt (I.scripts inputs.old) (I.traces inputs.old) (I.folders inputs.old)
-        command.entry (O.contents out.old) (O.contents out.new) command.entry.names) }
-    ensures scripts { I.scripts inputs.new ≡ I.scripts inputs.old }
-{
-    match command.names {
-        None => answer_by(rt, alloc, command, None, inputs, out),
-        Some(path) => answer_with(rt, alloc, command, path, inputs, out),
-    }
-}
-
-/// Answers a command, with the names of the text at this path.
-fn answer_with<R: Threads + Wait + Sync, I: Inputs, O: Write>(
-    rt: &R,
-    alloc: Global,
-    command: Command<'_>,
-    path: &str,
-    inputs: &mut I,
-    out: &mut O,
-) -> Result<Outcome, Failure>
-    ensures ok { IfOk result (DoneWith (I.scripts inputs.old) (I.traces inputs.old) (I.folders inputs.old)
-        command.entry (O.contents out.old) (O.contents out.new) path.now) }
-    ensures err { IfErr result (UndoneWith (I.scripts inputs.old) (I.traces inputs.old) (I.folders inputs.old)
-        command.entry (O.contents out.old) (O.contents out.new) path.now) }
-    ensures scripts { I.scripts inputs.new ≡ I.scripts inputs.old }
-{
-    let text = inputs.trace(path)?;
-    let names = read_names(alloc, &text)?;
-    inputs.forget();
-    let naming = Naming::of(&names, command.request);
     answer_by(rt, alloc, command, naming, inputs, out)
 }
 

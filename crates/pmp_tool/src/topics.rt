@@ -1,7 +1,7 @@
 //! The formats, as the program's help shows them. `make docs` writes this file from docs/FORMATS.md.
 
 pub const SCRIPT: &str = "\
-A script says which registers firmware writes, and when its writes count:
+A script lists the CSR writes of firmware, and says when they take effect:
 
   pmp 1
   # one region of 4 KiB, readable
@@ -9,28 +9,26 @@ A script says which registers firmware writes, and when its writes count:
   write pmpcfg0 0x19
   publish
 
-It has at most 1,048,576 bytes, in version 3 67,108,864. Spaces and tabs part
-words, and lines end with LF, or CR and LF. The first line is `pmp 1` for a unit
-of 16 entries, `pmp 2` for one of 64, or `pmp 3` for any hart. A line without
-words, and one whose first word begins with `#`, is skipped. Every other line is
-one of these:
-  write NAME VALUE  a write of VALUE to the register NAME joins the open batch
-  reset             a reset of the hart joins the open batch
-  publish           the open batch, perhaps empty, becomes the next publication;
-                    then an empty batch is open
+It has at most 1,048,576 bytes, in version 3 67,108,864. Spaces and tabs
+separate words, and LF or CR LF ends a line. The first line is `pmp 1` for a
+unit of 16 entries, `pmp 2` for one of 64, or `pmp 3` for any hart. Lines
+without words, or whose first word begins with `#`, are skipped. All others are
+one of:
+  write NAME VALUE  adds a write of VALUE to the register NAME to the open batch
+  reset             adds a reset of the hart to the open batch
+  publish           makes the open batch, perhaps empty, the next publication,
+                    and opens an empty batch
+  NAME              mseccfg; pmpcfg0, pmpcfg2, .. pmpcfg14, on RV32 also the odd
+                    ones and mseccfgh; pmpaddr0 to pmpaddr63; or the register's
+                    number after 0x
+  VALUE             a number
 
 A write or a reset is an event. The events of a publication take effect
-together, in their order. A batch holds at most 64 events, a script 1,048,576,
-and as many publications. No batch with events is open at the end. The words in
-capitals are:
-  NAME   mseccfg; pmpcfg0, pmpcfg2, .. pmpcfg14, on RV32 pmpcfg1 and so on too,
-         and mseccfgh; pmpaddr0 to pmpaddr63; or the register's number behind 0x
-  VALUE  a number
+together, in their order. A batch has at most 64 events, a script 1,048,576, and
+as many publications. At its end no event is open. `pmp import` makes scripts of
+QEMU's, Spike's and debuggers' logs.
 
-The programs in `examples/` make scripts of QEMU's traces, Spike's logs and a
-debugger's registers.
-
-In version 3 a script also says which hart it is, and what its registers keep at
+In version 3 a script also says what the hart is, and what its registers hold at
 first:
 
   pmp 3
@@ -43,97 +41,89 @@ first:
   expect pmpcfg0 0x99
   publish
 
-A line behind the first may be one of these too:
-  hart xlen WORD                   its registers have so many bits: 32, or 64 as
-                                   where nothing is said
-  hart entries N                   the hart has so many entries, 0 to 64; where
-                                   nothing is said, 16
+A line after the first may also be one of these:
+  hart xlen WORD                   XLEN, 32 or 64; by default 64
+  hart entries N                   how many entries the hart has, 0 to 64; by
+                                   default 16
   hart grain BYTES                 its grain: 4, 8, 16 and so on to 4,096 bytes;
-                                   else 4
-  hart bits N                      its physical addresses have so many bits: 34
-                                   to 56, else 56; on RV32 32 to 34, else 34
+                                   by default 4
+  hart bits N                      how many bits its physical addresses have: 34
+                                   to 56, by default 56; on RV32 32 to 34, by
+                                   default 34
   hart smepmp WORD                 yes or no: whether it has Smepmp, with
-                                   mseccfg; else yes
-  set NAME VALUE                   the register keeps VALUE before the first
-                                   event
-  expect NAME VALUE                the register reads VALUE here, behind the
+                                   mseccfg; by default yes
+  set NAME VALUE                   the register holds VALUE before the first
+                                   event; a reset clears this, and keeps the
+                                   hart
+  expect NAME VALUE                the register reads VALUE here, after the
                                    events above this line; pmp writes has a row
                                    for it
-  set-bits NAME VALUE              a write as CSRRS makes it: of what the
-                                   register reads here, with the bits of VALUE
-                                   set
-  clear-bits NAME VALUE            a write as CSRRC makes it: with them cleared
-  entry I off                      the byte of entry I becomes 0
+  set-bits NAME VALUE              a write as CSRRS makes it: what the register
+                                   reads here, with the bits of VALUE set
+  clear-bits NAME VALUE            a write as CSRRC makes it: with these bits
+                                   cleared
+  entry I off                      the configuration byte of entry I becomes 0
   entry I na4 FIRST 4 RIGHTS       entry I gets the four bytes from FIRST on,
                                    with these rights
   entry I napot FIRST SIZE RIGHTS  it gets SIZE bytes, a power of two of 8 or
                                    more
-  entry I tor FIRST END RIGHTS     it gets the bytes from FIRST up to END,
-                                   without END
-  mark MOMENT                      the moment here, between two publications,
-                                   has this name
-  publish MOMENT                   as publish, and the moment behind it has this
-                                   name
+  entry I tor FIRST END RIGHTS     it gets the bytes from FIRST up to, but not
+                                   including, END
+  mark MOMENT                      names the moment here, between two
+                                   publications
+  publish MOMENT                   as publish, and names the moment after it
+  RIGHTS                           r or -, w or -, x or -; the word L after them
+                                   locks the entry
 
-RIGHTS are `r` or `-`, `w` or `-`, `x` or `-`; the word `L` behind them locks
-the entry.
+`hart` and `set` lines are the head, before any event or `publish`, in any
+order, each field and register once.
 
-`hart` and `set` lines are the head. They stand before the first `write`,
-`reset` or `publish`, in any order, each field of the hart once, and each
-register once. A `reset` leaves nothing of what is set, and keeps the hart.
+If SCRIPT, OLD or NEW is a folder, `check`, `why`, `audit`, `policy`, `map`,
+`entries`, `writes`, `lint` and `diff` run for each hart: each file in it whose
+name ends with `.pmp` and doesn't begin with a dot. Each line begins with that
+name and a comma. The status is 0 if it is 0 for each hart. `pmp harts` writes
+where harts of a folder differ from the first one: the rows of `diff`, each
+after the other hart's name, and with `--locks` those of locks too.
 
-Where a folder stands in the place of SCRIPT, OLD or NEW, `check`, `why`,
-`audit`, `policy`, `map`, `entries`, `writes`, `lint` and `diff` are asked of
-each hart: of each file there whose name ends with `.pmp` and begins with no
-dot. Each line of the answer begins with that name and a comma, and all is well
-where it is on each hart.
-
-`pmp harts` compares each hart of a folder with the first one, and writes the
-rows of `diff` where they differ, each behind the name of the other hart, with
-`--locks` those of locks too. Where all are alike it writes nothing.
-
-A number is 1 to 20 decimal digits, or `0x` and 1 to 16 hexadecimal digits, and
-is below 2^64. Without `0x` it is decimal, whatever its digits.
+A number is 1 to 20 decimal digits, or `0x` and 1 to 16 hexadecimal digits,
+below 2^64. Without `0x` it is decimal.
 
 `pmp help script`, `pmp help trace` and `pmp help rows` tell of formats, and
 `pmp help COMMAND` of a command, its words and what it writes. docs/FORMATS.md
 describes all of it byte by byte, and has every refusal by its number.";
 
 pub const TRACE: &str = "\
-A trace lists accesses, and for each how many publications of a script are done
+A trace lists accesses, each with how many publications of a script are done
 before it:
 
   after,mode,kind,start,length
   0,U,load,0x80000000,4
   1,U,load,0x80000000,4
 
-It is CSV of at most 16,777,216 bytes, and with `pmp audit --long` of any
-length. The first record is that header. Every later record is a row, numbered
-from 1, of five fields:
-  after   how many publications of the script are done: a number, at most as
-          many as there are, and not below that of the row before; or with pmp 3
-          last, last-N or MOMENT, as policies name them
+It is CSV of at most 16,777,216 bytes, with `pmp audit --long` of any length.
+The first record is that header, all others are numbered rows. Numbers have no
+blanks, blank lines are no rows, and there are no comments.
+  after   how many publications are done: a number, at most as many as the
+          script has, and not below that of the row before; or with pmp 3 last,
+          last-N or MOMENT, as in policies
   mode    M, S or U
   kind    fetch, load or store
   start   the byte address of the access's first byte, a number; the access ends
           at or below 2^56
   length  how many bytes it has, a number: 1 to 4,096
 
-A blank belongs to its field, so no number has one. A blank line is no row, and
-there are no comments.
-
-A number is 1 to 20 decimal digits, or `0x` and 1 to 16 hexadecimal digits, and
-is below 2^64. Without `0x` it is decimal, whatever its digits.
+A number is 1 to 20 decimal digits, or `0x` and 1 to 16 hexadecimal digits,
+below 2^64. Without `0x` it is decimal.
 
 `pmp help script`, `pmp help trace` and `pmp help rows` tell of formats, and
 `pmp help COMMAND` of a command, its words and what it writes. docs/FORMATS.md
 describes all of it byte by byte, and has every refusal by its number.";
 
 pub const ROWS: &str = "\
-Each line of an answer ends with LF. A register's value is `0x` and 16
-hexadecimal digits, and a byte address is 14 of them without `0x`, in lower
-case; every other number is decimal. Rights are `r` or `-`, `w` or `-`, `x` or
-`-`: MRIGHTS are machine mode's, SURIGHTS those of supervisor and user mode.
+Each line ends with LF. Except in the scripts and plans of `import` and `plan`,
+a register's value is `0x` and 16 hexadecimal digits, a byte address 14 of them
+without `0x`, both in lower case, and every other number decimal. Rights are `r`
+or `-`, `w` or `-`, `x` or `-`: MRIGHTS for M-mode, SURIGHTS for S- and U-mode.
 
 `pmp check` writes `N,ANSWER,FAULT,CAUSE,ENTRY` for its access, and `pmp audit`
 for each row of the trace, in order.
@@ -141,71 +131,68 @@ for each row of the trace, in order.
   1,fault,5,none,
 
 `pmp policy` writes a row for each row of the policy, in order: `N,holds,,,,`,
-or `N,broken,DONE,FIRST,LAST,OWNER` with its first breach, in time and then in
-address, or `N,unmet,,,,`. Further breaches aren't told. Where the policy's
-header has them, `,NAME,COMMENT` stands behind.
+or `N,broken,DONE,FIRST,LAST,OWNER` with only its first breach, by time, then
+address, or `N,unmet,,,,`; then, if the header has them, `,NAME,COMMENT`.
 
   1,broken,0,00000000000000,0000000000000f,-
 
-`pmp dump` writes each register's name, a space and its value.
+`pmp dump` writes each register's name, a space and its value. The order depends
+on the script's version:
 
   pmpcfg0 0x000000000000001b
   pmpcfg2 0x0000000000000000
   mseccfg 0x0000000000000000
 
-`pmp map` writes `FIRST,LAST,OWNER,MRIGHTS,SURIGHTS` for each run: bytes in a
-row that have one owner, the lowest-numbered entry that matches them, or none.
+`pmp map` writes `FIRST,LAST,OWNER,MRIGHTS,SURIGHTS` for each run: adjacent
+bytes with one owner, or with none.
 
   00000000000000,00000000000007,0,rwx,rw-
   00000000000008,ffffffffffffff,-,rwx,---
 
-`pmp picture` writes what `pmp map` does as an SVG document, which a browser
-shows: a band for each run line, from byte 0 at the top to byte 2^56 - 1 at the
-bottom, all of equal height, in colours by what supervisor and user mode may do
-there. Above the bands stand how many publications are done, and whether
-lockdown (MML), the allow-list policy (MMWP) and rule-locking bypass (RLB) are
-on.
+`pmp picture` writes what `pmp map` does as an SVG document for a browser: a
+band for each run line, all of equal height, from byte 0 at the top to byte 2^56
+- 1 at the bottom, coloured by the rights of S-mode and U-mode. Above the bands
+it says how many publications are done, and whether MML, MMWP and RLB are on.
 
   <svg xmlns='http://www.w3.org/2000/svg' width='960' height='200' viewBox='0 0 960 200'>
 
 `pmp entries` writes
 `ENTRY,MATCHING,FIRST,LAST,MRIGHTS,SURIGHTS,LOCK,ADDRESS,SINCE,HOLDS` for each
-entry, from entry 0 on. An entry is frozen where its lock bit is set and
-rule-locking bypass (RLB) is 0.
+entry, in order.
 
   0,napot,00000000000000,00000000000007,---,---,frozen,frozen,1,1
 
 `pmp writes` writes
 `N,PUBLICATION,LINE,REGISTER,WRITTEN,BEFORE,AFTER,EFFECT,REASONS,ENTRIES` for
-each event of the script, in order, and behind them a row for each `expect`.
+each event of the script, in order, and then for each `expect`, by line.
 
   1,1,2,pmpcfg0,0x0000000000000099,0x0000000000000000,0x0000000000000099,stored,,
   2,1,3,pmpcfg0,0x0000000000000000,0x0000000000000099,0x0000000000000099,ignored,frozen,0
 
-`pmp lint` writes `NUMBER,NAME,LINE,ENTRY,FIRST,LAST,MODES` for each thing that
-an experienced reader would remark of a script, by the numbers of what is found,
-and of one number by entries, by addresses or by events.
+`pmp lint` writes `NUMBER,NAME,LINE,ENTRY,FIRST,LAST,MODES` for what an
+experienced reader would remark on, by number and then by entry, address or
+event. `--accept NAME` leaves out findings of NAME, `--accept NAME:LINE` those
+at LINE.
 
   2,mmwp-off,2,,,,
 
 `pmp why` writes
 `SINCE,ANSWER,FAULT,CAUSE,ENTRY,MATCHING,FIRST,LAST,BITS,TABLE,LOCK,HELD,CONFIGURED,ADDRESSED,LOWEND`:
-how an access is decided, since when, and what the entry that decides is.
+how an access is decided, since when, and what the deciding entry is.
 
   1,fault,7,rule,0,napot,00000080000000,00000080000fff,1100,plain,frozen,held,3,2,
   0,fault,7,none,
   1,fault,7,rule,0
 
 `pmp diff` writes `FIRST,LAST,MOLD,SUOLD,MNEW,SUNEW,CHANGE` for the longest
-ranges of bytes where the register files of two scripts differ in what they let
-the modes do, whoever owns the bytes, from the lowest address on.
+ranges of bytes whose rights differ between two scripts' register files, whoever
+owns the bytes, from the lowest address on.
 
   00000000000000,00000000000007,rwx,---,rwx,rw-,more
 
-`pmp import` writes a script of version 3 of a log: what the hart is, and behind
-a comment with the number of the log's line what the line says. With `--folder
-FOLDER` it writes one of each hart that has a write in the log, `hart0.pmp` and
-so on, to a folder that it makes.
+`pmp import` writes a script of version 3 from a log: what the hart is and then,
+after a comment with the number of the log's line, what a line says. `--folder
+FOLDER` makes a folder with one for each hart that writes, like `hart0.pmp`.
 
   pmp 3
   # from QEMU's trace, hart 0
@@ -221,12 +208,13 @@ describes all of it byte by byte, and has every refusal by its number.";
 
 pub const MORE: &str = "\
 Exit status:
-  0  every access is allowed or answered as --expect says, every row of a policy
-     holds, every write is stored as written, lint, diff or harts has nothing to
-     write, or what was asked for is written
-  1  an access is refused or answered as --expect doesn't say, a row of a policy
-     is broken, a write isn't stored as written, a register differs from what a
-     script expects, or lint, diff or harts writes a row
+  0  every access is allowed, or decided as --expect says, every row of a policy
+     holds, or is unmet with if-any, every write is stored as written, lint,
+     diff or harts has nothing to write, or what was asked for is written
+  1  an access is denied, or decided as --expect doesn't say, a row of a policy
+     is broken, or unmet without if-any, a write isn't stored as written, a
+     register differs from what a script expects, or lint, diff or harts writes
+     a row
   2  no answer: the words or an input are at fault
   3  no answer: memory, an input, the output or a checker failed
 
@@ -234,24 +222,38 @@ Example:
   echo 'pmp 1' | pmp check stdin U load 0x80000ff8 8 --expect fault
   It answers 1,fault,5,none,
 
+Example of names of addresses:
+  printf 'first,last,name\\n0x80000000,0x8003ffff,firmware\\n' > names.csv
+  echo 'pmp 1' | pmp check stdin U load firmware+0x10 8 --names names.csv
+  It answers 1,fault,5,none,
+
 `pmp help script`, `pmp help trace` and `pmp help rows` tell of formats, and
 `pmp help COMMAND` of a command, its words and what it writes. docs/FORMATS.md
 describes all of it byte by byte, and has every refusal by its number.";
 
 pub const MORE_OF_CHECK: &str = "\
-A number is 1 to 20 decimal digits, or `0x` and 1 to 16 hexadecimal digits, and
-is below 2^64. Without `0x` it is decimal, whatever its digits.
+A number is 1 to 20 decimal digits, or `0x` and 1 to 16 hexadecimal digits,
+below 2^64. Without `0x` it is decimal.
 
 `pmp check` writes `N,ANSWER,FAULT,CAUSE,ENTRY` for its access, and `pmp audit`
 for each row of the trace, in order.
   N       the row's number, from 1
   ANSWER  allow or fault
-  FAULT   empty where the access is allowed, else its exception code: 1 for a
+  FAULT   empty if the access is allowed, otherwise its exception code: 1 for a
           fetch, 5 for a load, 7 for a store
-  CAUSE   rule where an entry matches every byte of the access, split where the
-          first entry that matches a byte doesn't match them all, none where no
-          entry matches any byte
-  ENTRY   the number of that entry, empty under none
+  CAUSE   rule if the first entry that matches any byte of the access matches
+          every byte, split if it doesn't, none if no entry matches any byte
+  ENTRY   that entry's number, empty for none
+
+With `--names FILE`, `check` and `why` take a name as START, or NAME`+`OFFSET, a
+number of bytes after its first byte. `policy`, `map`, `entries`, `lint`, `diff`
+and `harts` write after each row a comma and the names of its bytes, from FIRST
+to LAST, in FILE's order and with blanks between: NAME if the range has all
+bytes of the name, NAME`+0x`OFFSET if only a part, OFFSET bytes into it. FILE
+has the line `first,last,name`, and then one for each name, as
+`0x80000000,0x8003ffff,firmware` and `0x10000000,0x10000fff,uart`: the byte
+address of the first byte; that of the last, not below; and the name, 1 to 64
+printable bytes without blank, `\"`, `+` and `,`, the first one no digit.
 
 Exit status:
   0  the answer is allow, or the one that --expect names
@@ -263,55 +265,68 @@ Example:
   echo 'pmp 1' | pmp check stdin U load 0x80000ff8 8 --expect fault
   It answers 1,fault,5,none,
 
+Example of names of addresses:
+  printf 'first,last,name\\n0x80000000,0x8003ffff,firmware\\n' > names.csv
+  echo 'pmp 1' | pmp check stdin U load firmware+0x10 8 --names names.csv
+  It answers 1,fault,5,none,
+
 docs/FORMATS.md describes all of it byte by byte, and has every refusal by its
 number.";
 
 pub const MORE_OF_WHY: &str = "\
-A number is 1 to 20 decimal digits, or `0x` and 1 to 16 hexadecimal digits, and
-is below 2^64. Without `0x` it is decimal, whatever its digits.
+A number is 1 to 20 decimal digits, or `0x` and 1 to 16 hexadecimal digits,
+below 2^64. Without `0x` it is decimal.
 
 `pmp why` writes
 `SINCE,ANSWER,FAULT,CAUSE,ENTRY,MATCHING,FIRST,LAST,BITS,TABLE,LOCK,HELD,CONFIGURED,ADDRESSED,LOWEND`:
-how an access is decided, since when, and what the entry that decides is.
+how an access is decided, since when, and what the deciding entry is.
   SINCE                        the first number of publications from which on
-                               the access is decided so, up to those that are
-                               asked for
+                               the access is decided so, up to the moment asked
+                               for
   ANSWER, FAULT, CAUSE, ENTRY  as in report rows
-  MATCHING, FIRST, LAST        how the entry's address is read, and the bytes
-                               that it matches, as in entry lines
+  MATCHING, FIRST, LAST        the entry's A, and the bytes that it matches, as
+                               in entry lines
   BITS                         its bits L, R, W and X
-  TABLE                        what reads them: smepmp, the table of Smepmp,
-                               where MML is 1, else plain
+  TABLE                        what reads them: smepmp, the truth table of
+                               Smepmp, if MML is 1, otherwise plain
   LOCK                         -, bypassed or frozen, as in entry lines
-  HELD                         held where it and all entries before it are
-                               frozen, else -
+  HELD                         held if it and all entries before it are frozen,
+                               otherwise -
   CONFIGURED                   the line that changed its configuration byte
-                               last, 0 where none did
+                               last, 0 if none did
   ADDRESSED                    the line that changed its address register last,
-                               0 where none did
-  LOWEND                       where it is TOR and not entry 0, the line that
-                               changed the address register before it last; else
-                               empty
+                               0 if none did
+  LOWEND                       if it is TOR and not entry 0, the line that
+                               changed the address register before it last;
+                               otherwise empty
 
-Where no entry decides, the fields from ENTRY on are empty. After that row come
-report rows of the same access, one for each run of moments with the same
-ANSWER, CAUSE and ENTRY, whose number is the first of these moments: 0 is the
-one before the first publication.
+If no entry decides, the fields from ENTRY on are empty. Then come report rows
+of the same access, one for each series of moments with the same ANSWER, CAUSE
+and ENTRY. N is the first of them; 0 is before the first publication.
 
 `pmp check` writes `N,ANSWER,FAULT,CAUSE,ENTRY` for its access, and `pmp audit`
 for each row of the trace, in order.
   N       the row's number, from 1
   ANSWER  allow or fault
-  FAULT   empty where the access is allowed, else its exception code: 1 for a
+  FAULT   empty if the access is allowed, otherwise its exception code: 1 for a
           fetch, 5 for a load, 7 for a store
-  CAUSE   rule where an entry matches every byte of the access, split where the
-          first entry that matches a byte doesn't match them all, none where no
-          entry matches any byte
-  ENTRY   the number of that entry, empty under none
+  CAUSE   rule if the first entry that matches any byte of the access matches
+          every byte, split if it doesn't, none if no entry matches any byte
+  ENTRY   that entry's number, empty for none
+
+With `--names FILE`, `check` and `why` take a name as START, or NAME`+`OFFSET, a
+number of bytes after its first byte. `policy`, `map`, `entries`, `lint`, `diff`
+and `harts` write after each row a comma and the names of its bytes, from FIRST
+to LAST, in FILE's order and with blanks between: NAME if the range has all
+bytes of the name, NAME`+0x`OFFSET if only a part, OFFSET bytes into it. FILE
+has the line `first,last,name`, and then one for each name, as
+`0x80000000,0x8003ffff,firmware` and `0x10000000,0x10000fff,uart`: the byte
+address of the first byte; that of the last, not below; and the name, 1 to 64
+printable bytes without blank, `\"`, `+` and `,`, the first one no digit.
 
 Exit status:
   0  the access is allowed
-  1  it is refused
+  1  it is denied
   2  no answer: the words or an input are at fault
   3  no answer: memory, an input, the output or a checker failed
 
@@ -323,30 +338,29 @@ docs/FORMATS.md describes all of it byte by byte, and has every refusal by its
 number.";
 
 pub const MORE_OF_AUDIT: &str = "\
-A number is 1 to 20 decimal digits, or `0x` and 1 to 16 hexadecimal digits, and
-is below 2^64. Without `0x` it is decimal, whatever its digits.
+A number is 1 to 20 decimal digits, or `0x` and 1 to 16 hexadecimal digits,
+below 2^64. Without `0x` it is decimal.
 
 `pmp check` writes `N,ANSWER,FAULT,CAUSE,ENTRY` for its access, and `pmp audit`
 for each row of the trace, in order.
   N       the row's number, from 1
   ANSWER  allow or fault
-  FAULT   empty where the access is allowed, else its exception code: 1 for a
+  FAULT   empty if the access is allowed, otherwise its exception code: 1 for a
           fetch, 5 for a load, 7 for a store
-  CAUSE   rule where an entry matches every byte of the access, split where the
-          first entry that matches a byte doesn't match them all, none where no
-          entry matches any byte
-  ENTRY   the number of that entry, empty under none
+  CAUSE   rule if the first entry that matches any byte of the access matches
+          every byte, split if it doesn't, none if no entry matches any byte
+  ENTRY   that entry's number, empty for none
 
-`pmp audit --long` takes a trace of any length, from a file or a pipe, and
-memory doesn't grow with it. It is read once, in pieces of at most 8,388,608
-bytes. Rows are written as pieces are decided, so whole rows may stand before a
-refusal: those of a beginning of the trace. Where standard error is a terminal
-and standard output isn't, a line there says how much was read. `--jobs` and
-`--first-row` are for a long trace, and `--checkers` isn't.
+`pmp audit --long` takes a trace of any length, from a file or a pipe, and its
+memory doesn't grow with it. It reads the trace once, in pieces of at most
+8,388,608 bytes, and writes rows as pieces are decided, so a refusal may follow
+whole rows, those of the trace's beginning. If standard error is a terminal and
+standard output isn't, a line there says how much was read. `--jobs` and
+`--first-row` go only with `--long`, `--checkers` only without.
 
 Exit status:
-  0  every access of the trace is allowed, as where it has no rows
-  1  the unit refuses one of them
+  0  every access of the trace, if it has any, is allowed
+  1  the unit denies one of them
   2  no answer: the words or an input are at fault
   3  no answer: memory, an input, the output or a checker failed
 
@@ -365,99 +379,86 @@ docs/FORMATS.md describes all of it byte by byte, and has every refusal by its
 number.";
 
 pub const MORE_OF_POLICY: &str = "\
-A number is 1 to 20 decimal digits, or `0x` and 1 to 16 hexadecimal digits, and
-is below 2^64. Without `0x` it is decimal, whatever its digits.
+A number is 1 to 20 decimal digits, or `0x` and 1 to 16 hexadecimal digits,
+below 2^64. Without `0x` it is decimal.
 
-A policy lists demands on ranges of bytes and on publications of a script:
+A policy lists demands on ranges of bytes, over publications of a script:
 
   from,to,modes,kind,first,last,demand
   1,,SU,store,0x80000000,0x8007ffff,never
   3,4,S,any,0x80200000,0x802fffff,always
 
-It is read as a trace is: CSV of at most 16,777,216 bytes, that header, and a
-row of its fields for each demand, numbered from 1:
-  from    the first moment that is asked of: a number of publications, at most
-          as many as there are; 0 is before the first
-  to      the last one, not below from and at most as many as there are; where
-          it is empty, that is the number of all
+It is read as a trace is: CSV of at most 16,777,216 bytes, that header, and
+numbered rows:
+  from    the first moment that the row asks about: a number of publications, at
+          most as many as there are; 0 is before the first
+  to      the last one, not below from and at most as many as there are; if
+          empty, the number of all
   modes   one to three of the letters M, S and U, none twice
   kind    fetch, load, store or any
   first   the byte address of the first byte, a number
-  last    that of the last byte, which is asked of too: not below first, and
-          below 2^56
+  last    that of the last byte, inclusive: not below first, and below 2^56
   demand  never, always or held
 
-Where the script is of version 3, `from` and `to`, and as well `--after` and,
-but for `mml`, `mmwp` and `rlb-clear`, the field `after` of a trace, may name a
-moment too, so that they outlive a change of the firmware:
+With a script of version 3, `from` and `to` may also name a moment, and so
+survive a change of the firmware. `--after` takes these words too, and so does
+the field `after` of a trace, except `mml`, `mmwp` and `rlb-clear`:
   last         after the last publication
-  last-N       so many publications before it, a number
-  mml or mmwp  the first one from which that bit of mseccfg is set to the end
-  rlb-clear    the first one from which RLB is clear to the end
+  last-N       N publications before that; N is a number
+  mml or mmwp  the first one from which on that bit of mseccfg is set to the end
+  rlb-clear    the first one from which on RLB is clear to the end
   MOMENT       the one that the script names so; a name that it doesn't have is
                refused (58)
 
-Where such a moment never comes, `--after` and a trace are refused (58), and a
-policy's row is unmet, as it is where `to` comes before `from`. In a policy a
-name may end with a blank and `if-any`: then the row need not be met.
-
-Each row may begin with a name and end with a comment, both for people, where
-the header says so:
-
-  name,from,to,modes,kind,first,last,demand,comment
-  firmware,1,,SU,any,0x80000000,0x8007ffff,never,\"closed to all but machine mode, from the first publication on\"
-
-A name and a comment are any text without control bytes, below 0x20 or 0x7F, or
-none. Two rows may have one name.
-
-A byte is open to a mode and a kind where the access of that one byte is
-allowed.
-  never   after none of these publications a byte of the range is open to one of
+If such a moment never comes, `--after` and a trace are refused (58), and a
+policy row is unmet, as it is if `to` comes before `from`. With a blank and
+`if-any` after a moment's name, an unmet row doesn't fail the policy. A byte is
+open to a mode and a kind if the access of that one byte is allowed.
+  never   after none of these publications is a byte of the range open to one of
           the modes by the kind, or for any by one of the three
   always  after each of them every byte is open to each of the modes by the
           kind, or for any by all three
   held    never, and after the last of these publications no list of writes
-          without a reset opens one of the bytes: the owner of each and all
-          entries before it are frozen then, or, where no entry owns it, all
+          without a reset opens one of the bytes: each one's owner and all
+          entries before it are frozen then, or, if no entry owns it, all
           entries are
 
+With the header `name,from,to,modes,kind,first,last,demand,comment` each row has
+a name and a comment for people: any text without control bytes (below 0x20, or
+0x7F), or none. Two rows may have the same name. An example is
+`firmware,1,,SU,any,0x80000000,0x8007ffff,never,\"closed to all but machine mode,
+from the first publication on\"`.
+
 `pmp policy` writes a row for each row of the policy, in order: `N,holds,,,,`,
-or `N,broken,DONE,FIRST,LAST,OWNER` with its first breach, in time and then in
-address, or `N,unmet,,,,`. Further breaches aren't told. Where the policy's
-header has them, `,NAME,COMMENT` stands behind.
+or `N,broken,DONE,FIRST,LAST,OWNER` with only its first breach, by time, then
+address, or `N,unmet,,,,`; then, if the header has them, `,NAME,COMMENT`.
   N              the row's number, from 1
-  DONE           after how many publications it is broken; where the hold alone
-                 is missing, the last of those that are asked of
+  DONE           after how many publications it is broken; if only the locks of
+                 held are missing, the last of those that the row asks about.
+                 With --each-write, by which a policy also asks after each event
+                 after publication from, up to to, it is after how many events,
+                 as N of the event rows; from and to still count publications
   FIRST          the byte address of the first byte of the range at fault there
-  LAST           that of the last byte behind it with the same owner, as far as
-                 the range goes
-  OWNER          the number of the entry that owns them, or - where no entry
+  LAST           that of the last byte after it with the same owner, within the
+                 range
+  OWNER          the number of the entry that owns them, or - if no entry
                  matches
-  NAME, COMMENT  the row's, as fields of CSV: in quotes where they have a comma
-                 or a quote, and then with \"\" for a quote
+  NAME, COMMENT  the row's, as fields of CSV: in quotes if they have a comma or
+                 a quote, and then with \"\" for a quote
 
-With `--each-write` a policy asks after each event behind publication `from`
-too, up to `to`, which still count publications. DONE is then how many events
-are done, which is N of the event rows.
-
-With `--names FILE`, `policy`, `map`, `entries`, `lint`, `diff` and `harts`
-write behind each row a comma and the names that the bytes from FIRST to LAST
-have, in the order of the file, with blanks between them: NAME where all that
-has the name is in the range, and NAME`+0x`OFFSET where only a part is, which
-begins OFFSET bytes behind the first byte of NAME.
-
-  first,last,name
-  0x80000000,0x8003ffff,firmware
-  0x10000000,0x10000fff,uart
-
-The file has that first line, and a line with these fields for each name: the
-byte address of the first byte, that of the last one, not below, and the name: 1
-to 64 printable bytes, no blank, `\"`, `+` or `,`, of which the first is no
-digit.
+With `--names FILE`, `check` and `why` take a name as START, or NAME`+`OFFSET, a
+number of bytes after its first byte. `policy`, `map`, `entries`, `lint`, `diff`
+and `harts` write after each row a comma and the names of its bytes, from FIRST
+to LAST, in FILE's order and with blanks between: NAME if the range has all
+bytes of the name, NAME`+0x`OFFSET if only a part, OFFSET bytes into it. FILE
+has the line `first,last,name`, and then one for each name, as
+`0x80000000,0x8003ffff,firmware` and `0x10000000,0x10000fff,uart`: the byte
+address of the first byte; that of the last, not below; and the name, 1 to 64
+printable bytes without blank, `\"`, `+` and `,`, the first one no digit.
 
 Exit status:
-  0  every row holds, as where there are none
-  1  a row is broken
+  0  every row, if there are any, holds, or is unmet with if-any
+  1  a row is broken, or unmet without if-any
   2  no answer: the words or an input are at fault
   3  no answer: memory, an input, the output or a checker failed
 
@@ -470,22 +471,20 @@ docs/FORMATS.md describes all of it byte by byte, and has every refusal by its
 number.";
 
 pub const MORE_OF_DUMP: &str = "\
-A number is 1 to 20 decimal digits, or `0x` and 1 to 16 hexadecimal digits, and
-is below 2^64. Without `0x` it is decimal, whatever its digits.
+A number is 1 to 20 decimal digits, or `0x` and 1 to 16 hexadecimal digits,
+below 2^64. Without `0x` it is decimal.
 
-`pmp dump` writes each register's name, a space and its value.
-
-The order depends on the script's version:
+`pmp dump` writes each register's name, a space and its value. The order depends
+on the script's version:
 - 1: pmpcfg0, pmpcfg2, pmpaddr0 to pmpaddr15, mseccfg: 19 lines
 - 2: pmpcfg0, pmpcfg2, pmpcfg4, .. pmpcfg14, pmpaddr0 to pmpaddr63, mseccfg: 73
   lines
-- 3: likewise those with bytes and addresses of the hart's entries, on RV32
-  pmpcfg1 and so on too, and mseccfg
+- 3: likewise those of the hart's entries, on RV32 with pmpcfg1 and so on, and
+  mseccfg
 
-With `--script` it writes a script of version 3 that begins with this very
-register file, and has no publication: the lines that say the hart, with its
-XLEN where that is 32, and a `set` line, in the same order, for each register
-that keeps another value than 0.
+With `--script` it writes a script of version 3 that begins with this register
+file and has no publication: the lines of the hart, with its XLEN if that is 32,
+and, in the same order, a `set` line for each register that doesn't hold 0.
 
 Exit status:
   0  the answer is written
@@ -500,34 +499,30 @@ docs/FORMATS.md describes all of it byte by byte, and has every refusal by its
 number.";
 
 pub const MORE_OF_MAP: &str = "\
-A number is 1 to 20 decimal digits, or `0x` and 1 to 16 hexadecimal digits, and
-is below 2^64. Without `0x` it is decimal, whatever its digits.
+A number is 1 to 20 decimal digits, or `0x` and 1 to 16 hexadecimal digits,
+below 2^64. Without `0x` it is decimal.
 
-`pmp map` writes `FIRST,LAST,OWNER,MRIGHTS,SURIGHTS` for each run: bytes in a
-row that have one owner, the lowest-numbered entry that matches them, or none.
+`pmp map` writes `FIRST,LAST,OWNER,MRIGHTS,SURIGHTS` for each run: adjacent
+bytes with one owner, or with none.
   FIRST     the byte address of the run's first byte
   LAST      that of its last byte
-  OWNER     the entry's number, or - where no entry matches
-  MRIGHTS   what machine mode may do there: r, w and x, or - for each
-  SURIGHTS  the same for supervisor and user mode
+  OWNER     the lowest-numbered entry that matches these bytes, or - if no entry
+            does
+  MRIGHTS   what M-mode may do there: r, w and x, or - for each
+  SURIGHTS  the same for S-mode and U-mode
 
-An access that lies in one run is decided by that run's rights. One that
-straddles runs is refused, as `split` by the least owner in it.
+An access within one run is decided by its rights. One across runs is denied,
+`split` by its lowest-numbered owner.
 
-With `--names FILE`, `policy`, `map`, `entries`, `lint`, `diff` and `harts`
-write behind each row a comma and the names that the bytes from FIRST to LAST
-have, in the order of the file, with blanks between them: NAME where all that
-has the name is in the range, and NAME`+0x`OFFSET where only a part is, which
-begins OFFSET bytes behind the first byte of NAME.
-
-  first,last,name
-  0x80000000,0x8003ffff,firmware
-  0x10000000,0x10000fff,uart
-
-The file has that first line, and a line with these fields for each name: the
-byte address of the first byte, that of the last one, not below, and the name: 1
-to 64 printable bytes, no blank, `\"`, `+` or `,`, of which the first is no
-digit.
+With `--names FILE`, `check` and `why` take a name as START, or NAME`+`OFFSET, a
+number of bytes after its first byte. `policy`, `map`, `entries`, `lint`, `diff`
+and `harts` write after each row a comma and the names of its bytes, from FIRST
+to LAST, in FILE's order and with blanks between: NAME if the range has all
+bytes of the name, NAME`+0x`OFFSET if only a part, OFFSET bytes into it. FILE
+has the line `first,last,name`, and then one for each name, as
+`0x80000000,0x8003ffff,firmware` and `0x10000000,0x10000fff,uart`: the byte
+address of the first byte; that of the last, not below; and the name, 1 to 64
+printable bytes without blank, `\"`, `+` and `,`, the first one no digit.
 
 Exit status:
   0  the answer is written
@@ -542,27 +537,24 @@ docs/FORMATS.md describes all of it byte by byte, and has every refusal by its
 number.";
 
 pub const MORE_OF_PICTURE: &str = "\
-A number is 1 to 20 decimal digits, or `0x` and 1 to 16 hexadecimal digits, and
-is below 2^64. Without `0x` it is decimal, whatever its digits.
+A number is 1 to 20 decimal digits, or `0x` and 1 to 16 hexadecimal digits,
+below 2^64. Without `0x` it is decimal.
 
-`pmp picture` writes what `pmp map` does as an SVG document, which a browser
-shows: a band for each run line, from byte 0 at the top to byte 2^56 - 1 at the
-bottom, all of equal height, in colours by what supervisor and user mode may do
-there. Above the bands stand how many publications are done, and whether
-lockdown (MML), the allow-list policy (MMWP) and rule-locking bypass (RLB) are
-on.
-  First byte, Last byte  FIRST and LAST of the run line behind 0x
-  Size                   to the end for the run that ends at byte 2^56 - 1; for
-                         another how many bytes it has, in the largest of PiB,
-                         TiB, GiB, MiB, KiB of which it is a whole number, or
-                         else in bytes
+`pmp picture` writes what `pmp map` does as an SVG document for a browser: a
+band for each run line, all of equal height, from byte 0 at the top to byte 2^56
+- 1 at the bottom, coloured by the rights of S-mode and U-mode. Above the bands
+it says how many publications are done, and whether MML, MMWP and RLB are on.
+  First byte, Last byte  FIRST and LAST of the run line, after 0x
+  Size                   to the end for the run that ends at byte 2^56 - 1;
+                         otherwise how many bytes it has, in the largest of PiB,
+                         TiB, GiB, MiB, KiB that gives a whole number, or in
+                         bytes
   Owner                  entry and its number, or no entry
   Machine                MRIGHTS
   Supervisor, user       SURIGHTS
-  Lock                   where the owner is frozen, the sign of a lock: a full
-                         one and holds where all entries before it are frozen
-                         too, an empty one and frozen where one isn't; else
-                         nothing
+  Lock                   if the owner is frozen, a lock: a full one and holds if
+                         all entries before it are frozen too, an empty one and
+                         frozen if one isn't; otherwise nothing
 
 Exit status:
   0  the answer is written
@@ -577,50 +569,43 @@ docs/FORMATS.md describes all of it byte by byte, and has every refusal by its
 number.";
 
 pub const MORE_OF_ENTRIES: &str = "\
-A number is 1 to 20 decimal digits, or `0x` and 1 to 16 hexadecimal digits, and
-is below 2^64. Without `0x` it is decimal, whatever its digits.
+A number is 1 to 20 decimal digits, or `0x` and 1 to 16 hexadecimal digits,
+below 2^64. Without `0x` it is decimal.
 
 `pmp entries` writes
 `ENTRY,MATCHING,FIRST,LAST,MRIGHTS,SURIGHTS,LOCK,ADDRESS,SINCE,HOLDS` for each
-entry, from entry 0 on. An entry is frozen where its lock bit is set and
-rule-locking bypass (RLB) is 0.
+entry, in order.
   ENTRY     the entry's number
-  MATCHING  how its address is read: off, tor, na4 or napot
-  FIRST     the byte address of the first byte that it matches, or - where it
+  MATCHING  its A: off, tor, na4 or napot
+  FIRST     the byte address of the first byte that it matches, or - if it
             matches none
   LAST      that of the last one, or -
-  MRIGHTS   what machine mode may do where it decides: r, w and x, or - for each
-  SURIGHTS  the same for supervisor and user mode
-  LOCK      - where its lock bit is clear; where it is set, bypassed while RLB
-            is 1, else frozen
-  ADDRESS   frozen where its address register takes no write, since the entry is
-            frozen, or the next one is and is TOR; else -
-  SINCE     where it is frozen, the publication from which on it is so without a
-            break, 0 where the script begins so; else empty
-  HOLDS     where it and all entries before it are frozen, the publication from
-            which on all of them are; else empty
+  MRIGHTS   what M-mode may do if it decides: r, w and x, or - for each
+  SURIGHTS  the same for S-mode and U-mode
+  LOCK      - if its L is 0; bypassed if its L and RLB are 1; frozen if its L is
+            1 and RLB is 0: then the entry is frozen
+  ADDRESS   frozen if its address register takes no write, because the entry is
+            frozen, or the next one is frozen and TOR; otherwise -
+  SINCE     if it is frozen, the publication from which on it is so without a
+            break, 0 if the script begins so; otherwise empty
+  HOLDS     if it and all entries before it are frozen, the publication from
+            which on all of them are; otherwise empty
 
 A frozen entry keeps its configuration byte and the bytes that it matches
-through every later list of writes without a reset. What it decides holds from
-publication HOLDS on: until a reset, no write allows what the entry refuses, and
-none refuses what it allows while MML stays as it is. Where an entry is frozen
-and HOLDS is empty, one with a lower number isn't frozen, and may be able to
-take its bytes.
+through all later writes without a reset. From publication HOLDS on, until a
+reset, no write allows what the entry denies, and none denies what it allows
+while MML doesn't change. If an entry is frozen and HOLDS is empty, one before
+it isn't frozen, and may be able to take its bytes.
 
-With `--names FILE`, `policy`, `map`, `entries`, `lint`, `diff` and `harts`
-write behind each row a comma and the names that the bytes from FIRST to LAST
-have, in the order of the file, with blanks between them: NAME where all that
-has the name is in the range, and NAME`+0x`OFFSET where only a part is, which
-begins OFFSET bytes behind the first byte of NAME.
-
-  first,last,name
-  0x80000000,0x8003ffff,firmware
-  0x10000000,0x10000fff,uart
-
-The file has that first line, and a line with these fields for each name: the
-byte address of the first byte, that of the last one, not below, and the name: 1
-to 64 printable bytes, no blank, `\"`, `+` or `,`, of which the first is no
-digit.
+With `--names FILE`, `check` and `why` take a name as START, or NAME`+`OFFSET, a
+number of bytes after its first byte. `policy`, `map`, `entries`, `lint`, `diff`
+and `harts` write after each row a comma and the names of its bytes, from FIRST
+to LAST, in FILE's order and with blanks between: NAME if the range has all
+bytes of the name, NAME`+0x`OFFSET if only a part, OFFSET bytes into it. FILE
+has the line `first,last,name`, and then one for each name, as
+`0x80000000,0x8003ffff,firmware` and `0x10000000,0x10000fff,uart`: the byte
+address of the first byte; that of the last, not below; and the name, 1 to 64
+printable bytes without blank, `\"`, `+` and `,`, the first one no digit.
 
 Exit status:
   0  the answer is written
@@ -635,57 +620,51 @@ docs/FORMATS.md describes all of it byte by byte, and has every refusal by its
 number.";
 
 pub const MORE_OF_WRITES: &str = "\
-A number is 1 to 20 decimal digits, or `0x` and 1 to 16 hexadecimal digits, and
-is below 2^64. Without `0x` it is decimal, whatever its digits.
+A number is 1 to 20 decimal digits, or `0x` and 1 to 16 hexadecimal digits,
+below 2^64. Without `0x` it is decimal.
 
 `pmp writes` writes
 `N,PUBLICATION,LINE,REGISTER,WRITTEN,BEFORE,AFTER,EFFECT,REASONS,ENTRIES` for
-each event of the script, in order, and behind them a row for each `expect`.
-  N            the event's number, from 1
-  PUBLICATION  the number of its publication, from 1
-  LINE         the number of the script's line that says it, from 1
-  REGISTER     the register's name, or reset
-  WRITTEN      the value that is written
-  BEFORE       the value that the register reads before the write
-  AFTER        the value that it reads after the write
-  EFFECT       stored where AFTER is WRITTEN; else ignored where AFTER is
-               BEFORE; else altered
-  REASONS      why AFTER isn't WRITTEN, in the order below, parted by one space;
-               empty exactly where a write is stored
+each event of the script, in order, and then for each `expect`, by line.
+  N            the event's number, from 1; empty for an expect, which is no
+               event
+  PUBLICATION  the number of its publication, from 1; empty for an expect
+  LINE         the number of its line in the script, from 1
+  REGISTER     the register's name, or reset, with the fields after it empty
+               except EFFECT
+  WRITTEN      the value that is written, or expected
+  BEFORE       the value that the register reads before the write; empty for an
+               expect
+  AFTER        the value that it reads after the write, or at an expect after
+               the events above the line, published or not
+  EFFECT       stored if AFTER is WRITTEN; otherwise ignored if AFTER is BEFORE;
+               otherwise altered. For a reset it is reset; for an expect it is
+               expected if AFTER is WRITTEN, otherwise differs
+  REASONS      why AFTER isn't WRITTEN, by the words of the next table, in its
+               order and separated by spaces; empty for an expect, and for a
+               write if and only if it is stored
   ENTRIES      the entries for which frozen, tor, reserved, lockdown or grain is
-               a reason, ascending, parted by one space
-
-The reasons are:
+               a reason, ascending, separated by spaces
   absent    the value isn't 0 for an entry, or for mseccfg or mseccfgh, that the
             hart doesn't have
   bits      the value has bits that the register doesn't have: of an address 63
-            to 54, or what the hart's address bits leave out, 6 and 5 of a
-            configuration byte, 63 to 3 of mseccfg and all of mseccfgh if the
+            to 54, or those above the hart's address bits; 6 and 5 of a
+            configuration byte; 63 to 3 of mseccfg, and all of mseccfgh, if the
             hart has them
   frozen    an entry is frozen, and the value has another byte or address for it
-            than it has
+            than its own
   tor       the entry isn't frozen, the next one is and is TOR, and the value is
             another address
   reserved  MML is 0, and a byte for an entry that isn't frozen has W without R
   lockdown  MML is 1, RLB is 0, and a byte for an entry that isn't frozen is,
-            without its bits 6 and 5, a rule by which machine mode executes: L R
-            W X 1001, 1010, 1011 or 1101
+            without bits 6 and 5, a rule by which M-mode executes: L R W X 1001,
+            1010, 1011 or 1101
   sticky    MML or MMWP is 1, and its bit in the value is 0
-  bypass    RLB is 0, its bit in the value is 1, and some entry has its lock bit
-            set, if the hart has mseccfg
+  bypass    RLB is 0, its bit in the value is 1, and some entry has L = 1, if
+            the hart has mseccfg
   grain     the grain is above 4 bytes, and the value has NA4 for an entry that
             isn't frozen, or is an address whose bits below the grain don't read
-            so while its entry is as it is
-
-Of a reset EFFECT is `reset` too, and the fields between REGISTER and EFFECT and
-those behind EFFECT are empty.
-
-Behind the rows of events stands one for each `expect` of the script, in the
-order of their lines. It is no event, so N and PUBLICATION are empty, and so are
-BEFORE, REASONS and ENTRIES. LINE is its line, WRITTEN the value that is
-expected, AFTER what the register reads behind the events that stand above the
-line, whether published yet or not, and EFFECT is `expected` where these are the
-same, else `differs`.
+            so with its entry as it is
 
 Exit status:
   0  every write is stored as written, and all that is expected is there
@@ -701,67 +680,55 @@ docs/FORMATS.md describes all of it byte by byte, and has every refusal by its
 number.";
 
 pub const MORE_OF_LINT: &str = "\
-A number is 1 to 20 decimal digits, or `0x` and 1 to 16 hexadecimal digits, and
-is below 2^64. Without `0x` it is decimal, whatever its digits.
+A number is 1 to 20 decimal digits, or `0x` and 1 to 16 hexadecimal digits,
+below 2^64. Without `0x` it is decimal.
 
-`pmp lint` writes `NUMBER,NAME,LINE,ENTRY,FIRST,LAST,MODES` for each thing that
-an experienced reader would remark of a script, by the numbers of what is found,
-and of one number by entries, by addresses or by events.
-  1 rlb-left-on         in the end RLB is 1 and an entry has its lock bit set,
-                        be it off or not: no lock binds
-  2 mmwp-off            in the end MML is 1 and MMWP is 0: machine mode may read
-                        and write where no entry matches
+`pmp lint` writes `NUMBER,NAME,LINE,ENTRY,FIRST,LAST,MODES` for what an
+experienced reader would remark on, by number and then by entry, address or
+event. `--accept NAME` leaves out findings of NAME, `--accept NAME:LINE` those
+at LINE.
+  1 rlb-left-on         in the end RLB is 1 and an entry has L = 1, even one
+                        that is OFF: no lock binds. Clear RLB in mseccfg once
+                        the entries are locked.
+  2 mmwp-off            in the end MML is 1 and MMWP is 0: M-mode may read and
+                        write where no entry matches. Set MMWP in mseccfg
+                        together with MML.
   3 open-before-locked  in the end an entry isn't frozen, and one with a higher
-                        number is: it may still take bytes of that one
+                        number is: it may still take bytes of that one. Lock
+                        this entry too, or put it behind those that are locked.
   4 never-decides       in the end an entry is on and owns no byte: it matches
-                        none, or entries with lower numbers match them all
-  5 write-and-execute   bytes side by side that one entry owns, or none, and
-                        that in the end a mode may both write and execute
-  6 open-between        bytes that S and U may read, write or execute after a
+                        none, or entries with lower numbers match them all. Turn
+                        the entry off, or put it before the entries that take
+                        its bytes.
+  5 write-and-execute   in the end a mode may both write and execute these
+                        adjacent bytes of one owner, or of none. Take W or X
+                        away, or part the bytes into code and data.
+  6 open-between        S and U may read, write or execute these bytes after a
                         single event, but neither before its publication nor
-                        after it
+                        after it. Write the entry that closes the bytes before
+                        the one that opens others.
   7 late-write          a frozen entry is a reason why a register doesn't read
-                        what is written to it
-  LINE   of 1 the line that changed RLB last, of 2 MML or MMWP, of 3 to 5 the
-         entry's byte or its address register; 0 where none did, or where no
-         entry owns the bytes; of 6 and 7 the event's own line
-  ENTRY  the entry's number; empty for 1, 2 and 6, and where no entry owns the
+                        what is written to it. Write the register before the
+                        entry is locked, or leave the write out.
+  LINE   for 1 the line that changed RLB last, for 2 MML or MMWP, for 3 to 5 the
+         entry's byte or its address register; 0 if none did, or if no entry
+         owns the bytes; for 6 and 7 the event's own line
+  ENTRY  the entry's number; empty for 1, 2 and 6, and if no entry owns the
          bytes
   FIRST  the byte address of the first byte that the entry matches, for 5 and 6
-         of the bytes that are found; else empty
+         of the bytes that are found; otherwise empty
   LAST   that of the last one, or empty
-  MODES  the letters of the modes, M, SU or MSU, for 5 and 6; else empty
+  MODES  the letters of the modes, M, SU or MSU, for 5 and 6; otherwise empty
 
-`--accept NAME` leaves the findings of this name out, and `--accept NAME:LINE`
-those of the name at this line.
-
-What mends each of them:
-  rlb-left-on         Clear RLB in mseccfg once the entries are locked.
-  mmwp-off            Set MMWP in mseccfg together with MML.
-  open-before-locked  Lock this entry too, or put it behind those that are
-                      locked.
-  never-decides       Turn the entry off, or put it before the entries that take
-                      its bytes.
-  write-and-execute   Take W or X away, or part the bytes into code and data.
-  open-between        Write the entry that closes the bytes before the one that
-                      opens others.
-  late-write          Write the register before the entry is locked, or leave
-                      the write out.
-
-With `--names FILE`, `policy`, `map`, `entries`, `lint`, `diff` and `harts`
-write behind each row a comma and the names that the bytes from FIRST to LAST
-have, in the order of the file, with blanks between them: NAME where all that
-has the name is in the range, and NAME`+0x`OFFSET where only a part is, which
-begins OFFSET bytes behind the first byte of NAME.
-
-  first,last,name
-  0x80000000,0x8003ffff,firmware
-  0x10000000,0x10000fff,uart
-
-The file has that first line, and a line with these fields for each name: the
-byte address of the first byte, that of the last one, not below, and the name: 1
-to 64 printable bytes, no blank, `\"`, `+` or `,`, of which the first is no
-digit.
+With `--names FILE`, `check` and `why` take a name as START, or NAME`+`OFFSET, a
+number of bytes after its first byte. `policy`, `map`, `entries`, `lint`, `diff`
+and `harts` write after each row a comma and the names of its bytes, from FIRST
+to LAST, in FILE's order and with blanks between: NAME if the range has all
+bytes of the name, NAME`+0x`OFFSET if only a part, OFFSET bytes into it. FILE
+has the line `first,last,name`, and then one for each name, as
+`0x80000000,0x8003ffff,firmware` and `0x10000000,0x10000fff,uart`: the byte
+address of the first byte; that of the last, not below; and the name, 1 to 64
+printable bytes without blank, `\"`, `+` and `,`, the first one no digit.
 
 Exit status:
   0  there is no row to write
@@ -777,50 +744,40 @@ docs/FORMATS.md describes all of it byte by byte, and has every refusal by its
 number.";
 
 pub const MORE_OF_DIFF: &str = "\
-A number is 1 to 20 decimal digits, or `0x` and 1 to 16 hexadecimal digits, and
-is below 2^64. Without `0x` it is decimal, whatever its digits.
+A number is 1 to 20 decimal digits, or `0x` and 1 to 16 hexadecimal digits,
+below 2^64. Without `0x` it is decimal.
 
 `pmp diff` writes `FIRST,LAST,MOLD,SUOLD,MNEW,SUNEW,CHANGE` for the longest
-ranges of bytes where the register files of two scripts differ in what they let
-the modes do, whoever owns the bytes, from the lowest address on.
+ranges of bytes whose rights differ between two scripts' register files, whoever
+owns the bytes, from the lowest address on.
   FIRST   the byte address of the first byte
   LAST    that of the last byte
-  MOLD    what machine mode may do there by the old script: r, w and x, or - for
-          each
-  SUOLD   the same for supervisor and user mode
-  MNEW    what machine mode may do there by the new script
-  SUNEW   the same for supervisor and user mode
-  CHANGE  more where the new rights have all of the old ones, less where the old
-          rights have all of the new ones, else both
+  MOLD    what M-mode may do there by the old script: r, w and x, or - for each
+  SUOLD   the same for S-mode and U-mode
+  MNEW    what M-mode may do there by the new script
+  SUNEW   the same for S-mode and U-mode
+  CHANGE  more if the new rights have all of the old ones, less if the old
+          rights have all of the new ones, otherwise both. --only more leaves
+          out rows that say less, and --only less those that say more
 
-With `--only more` no row says `less`, and with `--only less` no row says
-`more`; rows that say `both` stay. The two states alone are compared, and not
-what was open before them.
-
-With `--locks` rows `FIRST,LAST,LOCKOLD,LOCKNEW` stand behind these, also from
-the lowest address on: one for each of the longest ranges of bytes whose lock by
-the new script is another than by the old. `--only` leaves none of them out.
-  held      its owner and all entries before it are frozen, or where no entry
-            owns it, all entries are
+Only the two states are compared, not what was open before them. With `--locks`,
+rows `FIRST,LAST,LOCKOLD,LOCKNEW` follow, also by address: one for each of the
+longest ranges of bytes whose lock differs. `--only` keeps them all.
+  held      its owner and all entries before it are frozen, or no entry owns it
+            and all entries are
   frozen    its owner is frozen, and an entry before that one isn't
-  bypassed  its owner's lock bit is set while RLB is 1
-  -         its owner's lock bit is clear, or no entry owns it and some entry
-            isn't frozen
+  bypassed  its owner's L is 1 while RLB is 1
+  -         its owner's L is 0, or no entry owns it and some entry isn't frozen
 
-With `--names FILE`, `policy`, `map`, `entries`, `lint`, `diff` and `harts`
-write behind each row a comma and the names that the bytes from FIRST to LAST
-have, in the order of the file, with blanks between them: NAME where all that
-has the name is in the range, and NAME`+0x`OFFSET where only a part is, which
-begins OFFSET bytes behind the first byte of NAME.
-
-  first,last,name
-  0x80000000,0x8003ffff,firmware
-  0x10000000,0x10000fff,uart
-
-The file has that first line, and a line with these fields for each name: the
-byte address of the first byte, that of the last one, not below, and the name: 1
-to 64 printable bytes, no blank, `\"`, `+` or `,`, of which the first is no
-digit.
+With `--names FILE`, `check` and `why` take a name as START, or NAME`+`OFFSET, a
+number of bytes after its first byte. `policy`, `map`, `entries`, `lint`, `diff`
+and `harts` write after each row a comma and the names of its bytes, from FIRST
+to LAST, in FILE's order and with blanks between: NAME if the range has all
+bytes of the name, NAME`+0x`OFFSET if only a part, OFFSET bytes into it. FILE
+has the line `first,last,name`, and then one for each name, as
+`0x80000000,0x8003ffff,firmware` and `0x10000000,0x10000fff,uart`: the byte
+address of the first byte; that of the last, not below; and the name, 1 to 64
+printable bytes without blank, `\"`, `+` and `,`, the first one no digit.
 
 Exit status:
   0  there is no row to write
@@ -842,60 +799,47 @@ docs/FORMATS.md describes all of it byte by byte, and has every refusal by its
 number.";
 
 pub const MORE_OF_HARTS: &str = "\
-A number is 1 to 20 decimal digits, or `0x` and 1 to 16 hexadecimal digits, and
-is below 2^64. Without `0x` it is decimal, whatever its digits.
+A number is 1 to 20 decimal digits, or `0x` and 1 to 16 hexadecimal digits,
+below 2^64. Without `0x` it is decimal.
 
-Where a folder stands in the place of SCRIPT, OLD or NEW, `check`, `why`,
-`audit`, `policy`, `map`, `entries`, `writes`, `lint` and `diff` are asked of
-each hart: of each file there whose name ends with `.pmp` and begins with no
-dot. Each line of the answer begins with that name and a comma, and all is well
-where it is on each hart.
-
-`pmp harts` compares each hart of a folder with the first one, and writes the
-rows of `diff` where they differ, each behind the name of the other hart, with
-`--locks` those of locks too. Where all are alike it writes nothing.
+If SCRIPT, OLD or NEW is a folder, `check`, `why`, `audit`, `policy`, `map`,
+`entries`, `writes`, `lint` and `diff` run for each hart: each file in it whose
+name ends with `.pmp` and doesn't begin with a dot. Each line begins with that
+name and a comma. The status is 0 if it is 0 for each hart. `pmp harts` writes
+where harts of a folder differ from the first one: the rows of `diff`, each
+after the other hart's name, and with `--locks` those of locks too.
 
 `pmp diff` writes `FIRST,LAST,MOLD,SUOLD,MNEW,SUNEW,CHANGE` for the longest
-ranges of bytes where the register files of two scripts differ in what they let
-the modes do, whoever owns the bytes, from the lowest address on.
+ranges of bytes whose rights differ between two scripts' register files, whoever
+owns the bytes, from the lowest address on.
   FIRST   the byte address of the first byte
   LAST    that of the last byte
-  MOLD    what machine mode may do there by the old script: r, w and x, or - for
-          each
-  SUOLD   the same for supervisor and user mode
-  MNEW    what machine mode may do there by the new script
-  SUNEW   the same for supervisor and user mode
-  CHANGE  more where the new rights have all of the old ones, less where the old
-          rights have all of the new ones, else both
+  MOLD    what M-mode may do there by the old script: r, w and x, or - for each
+  SUOLD   the same for S-mode and U-mode
+  MNEW    what M-mode may do there by the new script
+  SUNEW   the same for S-mode and U-mode
+  CHANGE  more if the new rights have all of the old ones, less if the old
+          rights have all of the new ones, otherwise both. --only more leaves
+          out rows that say less, and --only less those that say more
 
-With `--only more` no row says `less`, and with `--only less` no row says
-`more`; rows that say `both` stay. The two states alone are compared, and not
-what was open before them.
-
-With `--locks` rows `FIRST,LAST,LOCKOLD,LOCKNEW` stand behind these, also from
-the lowest address on: one for each of the longest ranges of bytes whose lock by
-the new script is another than by the old. `--only` leaves none of them out.
-  held      its owner and all entries before it are frozen, or where no entry
-            owns it, all entries are
+Only the two states are compared, not what was open before them. With `--locks`,
+rows `FIRST,LAST,LOCKOLD,LOCKNEW` follow, also by address: one for each of the
+longest ranges of bytes whose lock differs. `--only` keeps them all.
+  held      its owner and all entries before it are frozen, or no entry owns it
+            and all entries are
   frozen    its owner is frozen, and an entry before that one isn't
-  bypassed  its owner's lock bit is set while RLB is 1
-  -         its owner's lock bit is clear, or no entry owns it and some entry
-            isn't frozen
+  bypassed  its owner's L is 1 while RLB is 1
+  -         its owner's L is 0, or no entry owns it and some entry isn't frozen
 
-With `--names FILE`, `policy`, `map`, `entries`, `lint`, `diff` and `harts`
-write behind each row a comma and the names that the bytes from FIRST to LAST
-have, in the order of the file, with blanks between them: NAME where all that
-has the name is in the range, and NAME`+0x`OFFSET where only a part is, which
-begins OFFSET bytes behind the first byte of NAME.
-
-  first,last,name
-  0x80000000,0x8003ffff,firmware
-  0x10000000,0x10000fff,uart
-
-The file has that first line, and a line with these fields for each name: the
-byte address of the first byte, that of the last one, not below, and the name: 1
-to 64 printable bytes, no blank, `\"`, `+` or `,`, of which the first is no
-digit.
+With `--names FILE`, `check` and `why` take a name as START, or NAME`+`OFFSET, a
+number of bytes after its first byte. `policy`, `map`, `entries`, `lint`, `diff`
+and `harts` write after each row a comma and the names of its bytes, from FIRST
+to LAST, in FILE's order and with blanks between: NAME if the range has all
+bytes of the name, NAME`+0x`OFFSET if only a part, OFFSET bytes into it. FILE
+has the line `first,last,name`, and then one for each name, as
+`0x80000000,0x8003ffff,firmware` and `0x10000000,0x10000fff,uart`: the byte
+address of the first byte; that of the last, not below; and the name, 1 to 64
+printable bytes without blank, `\"`, `+` and `,`, the first one no digit.
 
 Exit status:
   0  there is no row to write
@@ -913,43 +857,47 @@ docs/FORMATS.md describes all of it byte by byte, and has every refusal by its
 number.";
 
 pub const MORE_OF_IMPORT: &str = "\
-A number is 1 to 20 decimal digits, or `0x` and 1 to 16 hexadecimal digits, and
-is below 2^64. Without `0x` it is decimal, whatever its digits.
+A number is 1 to 20 decimal digits, or `0x` and 1 to 16 hexadecimal digits,
+below 2^64. Without `0x` it is decimal.
 
-`pmp import` writes a script of version 3 of a log: what the hart is, and behind
-a comment with the number of the log's line what the line says. With `--folder
-FOLDER` it writes one of each hart that has a write in the log, `hart0.pmp` and
-so on, to a folder that it makes.
+`pmp import` writes a script of version 3 from a log: what the hart is and then,
+after a comment with the number of the log's line, what a line says. `--folder
+FOLDER` makes a folder with one for each hart that writes, like `hart0.pmp`.
   qemu     pmpcfg_csr_write hart 0: write reg0, val: 0x18, the same with read,
-           and those of pmpaddr with addr0 and of mseccfg, perhaps behind a
+           and those of pmpaddr with addr0 and of mseccfg, perhaps after a
            process and a time; resettable_reset_..
-  gdb      pmpcfg0 0x18 24, as info registers answers, and Thread 2 (Thread 1.2
-           (CPU#1 .., as thread apply all does
-  openocd  pmpcfg0 (/64): 0x0000000000000018, as reg answers
+  gdb      pmpcfg0 0x18 24, as info registers prints, and Thread 2 (Thread 1.2
+           (CPU#1 .., as thread apply all does; registers without threads are
+           those of hart 0
+  openocd  pmpcfg0 (/64): 0x0000000000000018, as reg prints
   spike    core   0: 3 0x0000000080000008 (0x3a0312f3) c928_pmpcfg0
            0x0000000000000018, as --log-commits writes
   dump     pmpcfg0 0x0000000000000018, as pmp dump writes
-
-A write is a `write`, and a publication of its own, but with `--bursts`. A read
-is an `expect`, and so is behind a write of Spike's log the value that the
-register has then. Lines of resets side by side are one `reset`, but before the
-first line of the hart. `mark start` names the moment before the first event,
-`mark reset` the one behind the first reset, and `mark reset2`, `mark reset3`
-and so on those behind the next ones, so that policies may name them. A register
-that a debugger shows is a `set`, but for zero. Bits 63 to 54 of a `pmpaddr`,
-which QEMU before 11 keeps, are left out of `set` and `expect`, as a comment
-says.
-
-A file is read twice. The script is of the hart that writes first, or is shown
-first, and has 64 entries where a register of one behind the 16th has a value,
-XLEN 32 where a line is one of RV32, and else the defaults of a script. Options
-say another hart. Standard input is read once, and then options or the defaults
-say it. A line on standard error tells of that.
-
-With `--folder` each script is the one that `--hart` gives, which isn't asked
-for beside it (24), nor is standard input read then (24). Harts have numbers
-below 64. The folder isn't there before, or is empty (42): it is written beside
-its place, with `.part` behind its name, and has its name when it is whole.
+  a write        It becomes a write, and, without --bursts, a publication of its
+                 own.
+  a read         It becomes an expect, and so does the value that a register has
+                 after a write in Spike's log.
+  a register     One that a debugger shows becomes a set, unless it is zero.
+  bits 63 to 54  On RV64, set and expect leave out these bits of a pmpaddr,
+                 which QEMU before 11 keeps; a comment says so.
+  resets         They become one reset if no line of the hart is between them,
+                 and none before its first line.
+  moments        mark start names the one before the first event, mark reset the
+                 one after the first reset, and mark reset2, mark reset3 and so
+                 on those after the next ones, so that policies can name them.
+  the hart       A file is read twice. The script is of the hart that writes
+                 first, or is shown first. It has 64 entries if a register of an
+                 entry after the 16th isn't 0 (a write to the address register
+                 of entry 16 alone, with which OpenSBI probes for it, doesn't
+                 count), XLEN 32 if a line is one of RV32, and otherwise the
+                 defaults of a script. Options give another hart. Standard input
+                 is read once, so options or the defaults give it. A line on
+                 standard error says what was taken.
+  --folder       Each script is what --hart gives. Neither that nor standard
+                 input goes with it (24), and harts have numbers below 64. The
+                 folder must not exist yet, or be empty (42). It is written
+                 beside its place, with .part after its name, and gets its name
+                 when it is whole.
 
 Exit status:
   0  the answer is written
@@ -959,6 +907,37 @@ Exit status:
 Example:
   echo 'pmpcfg_csr_write hart 0: write reg0, val: 0x18' | pmp import qemu stdin
   It answers pmp 3
+
+docs/FORMATS.md describes all of it byte by byte, and has every refusal by its
+number.";
+
+pub const MORE_OF_PLAN: &str = "\
+A number is 1 to 20 decimal digits, or `0x` and 1 to 16 hexadecimal digits,
+below 2^64. Without `0x` it is decimal.
+
+A plan says who may do what with which bytes. `pmp plan` writes the CSR writes
+that make it so on a hart after reset: a script of version 3, or with `--c` a C
+array to paste into firmware. Options give the hart, by default RV64 with 16
+entries and Smepmp, and its MML, MMWP and RLB, by default 0. Before anything is
+written, the writes are run, and the result is compared with the plan, byte by
+byte. `pmp plan --of SCRIPT` turns a script's final registers into a plan.
+  first   the byte address of the first byte; rows may come in any order
+  last    that of the last byte, not below first
+  m       the rights of M-mode, as r-x; bytes of no row have rwx, with --mml
+          rw-, and with --mmwp none
+  su      those of S-mode and U-mode; bytes of no row have none
+  locked  yes if the bytes are to be locked until reset, otherwise no
+  name    a name, in the form that --names takes
+
+Exit status:
+  0  the answer is written
+  2  no answer: the words or an input are at fault
+  3  no answer: memory, an input, the output or a checker failed
+
+Example:
+  printf 'first,last,m,su,locked,name\\n0x80000000,0x8001ffff,r-x,---,yes,firmware\\n' > boot.csv
+  pmp plan boot.csv --mml --c
+  It answers static const struct { unsigned csr; unsigned long long value; } pmp_writes[] = {
 
 docs/FORMATS.md describes all of it byte by byte, and has every refusal by its
 number.";

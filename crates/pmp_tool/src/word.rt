@@ -1,6 +1,6 @@
 //! What the words of the command line say that `clap` found.
 
-ghost use Rattle.std.specs.Prelude.{◌≡◌, ◌≤◌, List, ℕ, Option, option_map};
+ghost use Rattle.std.specs.Prelude.{◌≡◌, ◌<◌, ◌≤◌, IfSome, List, ℕ, Option, option_map};
 ghost use Rattle.clap.specs.Words.{found_of, rows_of};
 ghost use Rattle.pmp_core.specs.declared.access.Kind.{Kind};
 ghost use Rattle.pmp_core.specs.declared.access.Mode.{Mode};
@@ -8,7 +8,7 @@ ghost use Rattle.pmp_lint.specs.Findings.{accepted_said};
 ghost use Rattle.pmp_text.specs.AccessWords.{kind_named, mode_named};
 ghost use Rattle.pmp_text.specs.Moments.{when_said};
 ghost use Rattle.pmp_text.specs.Numbers.{word_number};
-ghost use Rattle.pmp_tool.specs.Words.{expected_named, only_named, smepmp_named, xlen_named};
+ghost use Rattle.pmp_tool.specs.Words.{byte_named, expected_named, grain_named, only_named, place_of, smepmp_named, xlen_named};
 ghost use Rattle.pmp_tool.specs.Words.{asked_in, bad_word, count_in, is_bare_word, is_set, is_used, needed_in};
 ghost use Rattle.pmp_tool.specs.Words.{word_in};
 
@@ -144,6 +144,47 @@ impl Form for Smepmp {
             "no" => Some(Smepmp { is_there: false }),
             _ => None,
         }
+    }
+}
+
+impl Form for u8 {
+    ghost named = { byte_named };
+
+    fn read(word: &str) -> Option<u8> {
+        let number = read_word_number(word.as_bytes())?;
+        if number < 256 {
+            Some(number as u8)
+        } else {
+            None
+        }
+    }
+}
+
+/// What a word says of the grain.
+#[derive(Clone, Copy)]
+pub struct Grain {
+    /// The manual's G, 0 to 10.
+    pub place: u8,
+}
+
+/// The grains that there are, in bytes: that of G is at place G.
+const GRAINS: [u64; 11] = [4, 8, 16, 32, 64, 128, 256, 512, 1024, 2048, 4096];
+
+fn place_of(bytes: u64) -> Option<usize>
+    ensures place { result ≡ place_of bytes }
+    ensures small { IfSome result (λ place. place < 256) }
+{
+    GRAINS.iter().position(|grain| *grain == bytes)
+}
+
+impl Form for Grain {
+    ghost named = { grain_named };
+
+    /// A number of bytes.
+    fn read(word: &str) -> Option<Grain> {
+        let bytes = read_word_number(word.as_bytes())?;
+        let place = place_of(bytes)?;
+        Some(Grain { place: place as u8 })
     }
 }
 

@@ -31,6 +31,26 @@ const NAMES: [&str; 3] = [
     "name: 1 to 64 printable bytes without blanks, quotes, + and commas, of which the first is no digit",
 ];
 
+/// Those of a plan.
+const PLAN: [&str; 6] = [
+    "first: a byte address, in decimal or with 0x",
+    "last: a byte address that isn't below first, in decimal or with 0x",
+    "m: the rights of M-mode, as rwx, r-x or ---",
+    "su: the rights of S-mode and U-mode, as rwx, r-x or ---",
+    "locked: yes or no",
+    "name: 1 to 64 printable bytes without blanks, quotes, + and commas, of which the first is no digit",
+];
+
+/// What the field of a plan with this index has to be.
+pub fn plan_field(index: usize) -> Option<&'static str> {
+    PLAN.get(index).copied()
+}
+
+/// Whether a row of names or of a plan has an address at this index.
+pub fn is_range_address(index: Option<usize>) -> bool {
+    matches!(index, Some(0 | 1))
+}
+
 /// What the field of names with this index has to be.
 pub fn names_field(index: usize) -> Option<&'static str> {
     NAMES.get(index).copied()

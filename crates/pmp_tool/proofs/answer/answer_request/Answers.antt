@@ -73,3 +73,19 @@ returns-in-Import-clause-ok g c = rw c.in-Import.is (c.answer_import.ensures.ok 
 
 pub returns-in-Import-clause-err : goal.returns-in-Import-clause-err
 returns-in-Import-clause-err g c = rw c.in-Import.is (c.answer_import.ensures.err c.args.script.now)
+
+pub returns-in-Plan-clause-ok : goal.returns-in-Plan-clause-ok
+returns-in-Plan-clause-ok g c = rw c.in-Plan.is
+    (c.answer_plan.ensures.ok (g.I.Inputs.scripts c.args.inputs.now) (g.I.Inputs.traces c.args.inputs.now))
+
+pub returns-in-Plan-clause-err : goal.returns-in-Plan-clause-err
+returns-in-Plan-clause-err g c = rw c.in-Plan.is
+    (c.answer_plan.ensures.err (g.I.Inputs.scripts c.args.inputs.now) (g.I.Inputs.traces c.args.inputs.now))
+
+pub returns-in-PlanOf-clause-ok : goal.returns-in-PlanOf-clause-ok
+returns-in-PlanOf-clause-ok g c = rw c.in-PlanOf.is
+    (c.answer_plan_of.ensures.ok (g.I.Inputs.scripts c.args.inputs.now) (g.I.Inputs.traces c.args.inputs.now))
+
+pub returns-in-PlanOf-clause-err : goal.returns-in-PlanOf-clause-err
+returns-in-PlanOf-clause-err g c = rw c.in-PlanOf.is
+    (c.answer_plan_of.ensures.err (g.I.Inputs.scripts c.args.inputs.now) (g.I.Inputs.traces c.args.inputs.now))

@@ -22,7 +22,7 @@ returns-in_err-outcome-clause-err g c =
     let p = err_from_is_err_and exit.result exit.ensures.1 in
     let (alone, fails, is) = c.in_err-outcome.ensures.err in
     rw (p.1, p.2, is)
-    (fails_alone (record { script = c.as_str.result; names = c.args.command.names; request = c.with_new.result }) _
+    (fails_alone (record { script = c.as_str.result; request = c.with_new.result }) _
     (asked_of_hart c.args.command c.args.harts.now c.args.hart.now.name.bytes c.as_str.result.now
     (string_bytes c.in_ok-new.new) c.with_new.result
     (c.as_str.ensures.value ∙ c.in_ok-script.ensures ∙ ap (path_on c.args.harts.now.old c.args.command.script.now) c.as_str-name.ensures.value)
@@ -50,7 +50,7 @@ returns-clause-ok g c = record {
     rows = c.in_ok-outcome.alone.items;
   };
   is = record {
-    one = record { script = c.as_str.result; names = c.args.command.names; request = c.with_new.result };
+    one = record { script = c.as_str.result; request = c.with_new.result };
     is_on = asked_of_hart c.args.command c.args.harts.now c.args.hart.now.name.bytes c.as_str.result.now
         (string_bytes c.in_ok-new.new) c.with_new.result
         (c.as_str.ensures.value ∙ c.in_ok-script.ensures ∙ ap (path_on c.args.harts.now.old c.args.command.script.now) c.as_str-name.ensures.value)

@@ -1,36 +1,21 @@
-use Rattle.std.proofs.Common.{◌∙◌, refl, sym, ap, map, string_bytes, true≢false}
-use Rattle.std.proofs.lemmas.Result.{IfErr-weaker, err_from_is_err_and}
+use Rattle.std.proofs.Common.{refl, sym, map, string_bytes, true≢false}
+use Rattle.std.proofs.lemmas.Result.{IfErr-weaker}
 use Rattle.std.proofs.KnownBytes.{Keeps-refl}
-use Rattle.pmp_tool.specs.Commands.{asked_of}
-use Rattle.pmp_tool.specs.Runs.{no_text, refused_word}
+use Rattle.pmp_tool.specs.Runs.{no_text}
 use Rattle.pmp_tool.proofs.Running.{answered, asked_for_text, refused_by_clap, text_told, unanswered}
 use Rattle.pmp_tool.proofs.run.run.Goals as goal
 
-pub returns-in_err-read_command-in-Ok-clause-err : goal.returns-in_err-read_command-in-Ok-clause-err
-returns-in_err-read_command-in-Ok-clause-err g c =
-    let p = err_from_is_err_and c.from_residual.result c.from_residual.ensures.1 in
+pub returns-in-Ok-clause-ok : goal.returns-in-Ok-clause-ok
+returns-in-Ok-clause-ok g c =
     let taken = c.in-Ok.ensures.ok in
-    rw (p.1, p.2)
-    (refused_word c.in_err-read_command-in-Ok.field-0.0
-    (taken.0, sym (ap asked_of taken.1) ∙ sym c.in_err-read_command-in-Ok.ensures) (Keeps-refl _))
+    answered (map string_bytes c.args.words.now) _ _ _ _ _ taken.0 _ taken.1 c.answer_words.result
+    (g.I.Inputs.scripts c.answer_words.new.inputs) c.answer_words.ensures.ok
 
-pub returns-in_ok-read_command-in-Ok-clause-ok : goal.returns-in_ok-read_command-in-Ok-clause-ok
-returns-in_ok-read_command-in-Ok-clause-ok g c =
+pub returns-in-Ok-clause-err : goal.returns-in-Ok-clause-err
+returns-in-Ok-clause-err g c =
     let taken = c.in-Ok.ensures.ok in
-    answered (map string_bytes c.args.words.now) (g.I.Inputs.scripts c.args.inputs.now)
-    (g.I.Inputs.traces c.args.inputs.now) (g.I.Inputs.folders c.args.inputs.now)
-    c.in_ok-read_command-in-Ok.field-0 _ _
-    (taken.0, sym (ap asked_of taken.1) ∙ sym c.in_ok-read_command-in-Ok.ensures) c.answer_all.result
-    (g.I.Inputs.scripts c.answer_all.new.inputs) c.answer_all.ensures.ok
-
-pub returns-in_ok-read_command-in-Ok-clause-err : goal.returns-in_ok-read_command-in-Ok-clause-err
-returns-in_ok-read_command-in-Ok-clause-err g c =
-    let taken = c.in-Ok.ensures.ok in
-    unanswered (map string_bytes c.args.words.now) (g.I.Inputs.scripts c.args.inputs.now)
-    (g.I.Inputs.traces c.args.inputs.now) (g.I.Inputs.folders c.args.inputs.now)
-    c.in_ok-read_command-in-Ok.field-0 _ _
-    (taken.0, sym (ap asked_of taken.1) ∙ sym c.in_ok-read_command-in-Ok.ensures) c.answer_all.result
-    c.answer_all.ensures.err
+    unanswered (map string_bytes c.args.words.now) _ _ _ _ _ taken.0 _ taken.1 c.answer_words.result
+    c.answer_words.ensures.err
 
 pub returns-in-Err-clause-err : goal.returns-in-Err-clause-err
 returns-in-Err-clause-err g c =

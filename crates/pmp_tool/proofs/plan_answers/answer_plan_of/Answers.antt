@@ -1,0 +1,11 @@
+use Rattle.std.proofs.Common.{refl}
+use Rattle.pmp_tool.specs.declared.request.Request.TheVariants as request
+use Rattle.pmp_tool.specs.Failures.{unplanned}
+use Rattle.pmp_tool.proofs.Answering.{refused_so}
+use Rattle.pmp_tool.proofs.plan_answers.answer_plan_of.Goals as goal
+
+pub returns-in_err-write_plan_of-clause-err : goal.returns-in_err-write_plan_of-clause-err
+returns-in_err-write_plan_of-clause-err g c = λ scripts traces.
+    let fault = c.in_err-write_plan_of.field-0.0 in
+    refused_so _ _ scripts traces c.args.script.now request.PlanOf c.from_residual.result (unplanned fault)
+    c.from_residual.ensures.1 (record { fault = fault; is = refl; fails = c.in_err-write_plan_of.ensures.err })
