@@ -1,0 +1,102 @@
+/* SPDX-License-Identifier: MIT OR Apache-2.0 */
+/* Firmware for QEMU's virt machine in the memory of boot.csv: it makes the CSR writes of writes.h, tries each access of
+ * rows.h in the row's mode, and writes the row's number and the cause of the exception after it to the console. After a
+ * load or a store that is allowed comes a breakpoint; an allowed fetch finds no instruction. Then it ends QEMU. */
+#define CONSOLE 0x10000000
+#define DEVICE 0x100000
+#define DONE 0x5555
+
+    .globl _start
+_start:
+    la t0, trap
+    csrw mtvec, t0
+#include "writes.h"
+    la s0, rows
+    li s1, 0
+next:
+    la t0, end
+    beq s0, t0, done
+    lwu t0, 0(s0)                       /* MPP, the mode that mret leads to */
+    li t1, 0x1800
+    csrc mstatus, t1
+    csrs mstatus, t0
+    lwu t0, 4(s0)
+    csrw mepc, t0
+    lwu a0, 8(s0)
+    addi s0, s0, 12
+    addi s1, s1, 1
+    mret
+
+    .align 2
+trap:
+    mv a0, s1
+    li a1, ' '
+    call tell
+    csrr a0, mcause
+    li a1, '\n'
+    call tell
+    j next
+
+done:
+    li t0, DONE
+    li t1, DEVICE
+    sw t0, 0(t1)
+    j done
+
+    .macro put byte
+1:
+    lbu t2, 5(t0)
+    andi t2, t2, 0x20                   /* set when the console takes a byte */
+    beqz t2, 1b
+    sb \byte, 0(t0)
+    .endm
+
+/* tell: writes two decimal digits of a0, and the byte a1. */
+tell:
+    li t0, CONSOLE
+    li t1, 10
+    divu t3, a0, t1
+    addi t3, t3, '0'
+    put t3
+    remu t3, a0, t1
+    addi t3, t3, '0'
+    put t3
+    put a1
+    ret
+
+/* What makes an access: M-mode's in the firmware, S- and U-mode's in the memory that is open to them. */
+    .macro accesses mode
+\mode\()load1:
+    lb a1, 0(a0)
+    ebreak
+\mode\()load4:
+    lw a1, 0(a0)
+    ebreak
+\mode\()store1:
+    sb zero, 0(a0)
+    ebreak
+\mode\()store4:
+    sw zero, 0(a0)
+    ebreak
+\mode\()fetch2:
+    jr a0
+    .endm
+    accesses M
+
+    .equ MPP_M, 0x1800
+    .equ MPP_S, 0x800
+    .equ MPP_U, 0
+    .macro row mode, kind, start, length
+    .ifc \mode, M
+    .word MPP_\mode, M\kind\length, \start
+    .else
+    .word MPP_\mode, S\kind\length, \start
+    .endif
+    .endm
+    .align 2
+rows:
+#include "rows.h"
+end:
+
+    .section .open, "ax"
+    accesses S
