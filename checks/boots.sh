@@ -5,7 +5,7 @@
 assemble() {
     abi=$([ "$4" = 32 ] && echo ilp32 || echo lp64)
     riscv64-unknown-elf-gcc -march="rv$4im_zicsr" -mabi="$abi" -mcmodel=medany -nostdlib -I"$work" \
-        -Wl,-Ttext="$2",--build-id=none "$1" -o "$work/$3" || exit 1
+        -Iexamples/plans -Wl,-Ttext="$2",--build-id=none "$1" -o "$work/$3" || exit 1
 }
 
 # payload XLEN: $work/payload, where OpenSBI jumps to on such a hart.

@@ -2,9 +2,6 @@
 /* Firmware for QEMU's virt machine in the memory of boot.csv: it makes the CSR writes of writes.h, tries each access of
  * rows.h in the row's mode, and writes the row's number and the cause of the exception after it to the console. After a
  * load or a store that is allowed comes a breakpoint; an allowed fetch finds no instruction. Then it ends QEMU. */
-#define CONSOLE 0x10000000
-#define DEVICE 0x100000
-#define DONE 0x5555
 
     .globl _start
 _start:
@@ -37,32 +34,7 @@ trap:
     call tell
     j next
 
-done:
-    li t0, DONE
-    li t1, DEVICE
-    sw t0, 0(t1)
-    j done
-
-    .macro put byte
-1:
-    lbu t2, 5(t0)
-    andi t2, t2, 0x20                   /* set when the console takes a byte */
-    beqz t2, 1b
-    sb \byte, 0(t0)
-    .endm
-
-/* tell: writes two decimal digits of a0, and the byte a1. */
-tell:
-    li t0, CONSOLE
-    li t1, 10
-    divu t3, a0, t1
-    addi t3, t3, '0'
-    put t3
-    remu t3, a0, t1
-    addi t3, t3, '0'
-    put t3
-    put a1
-    ret
+#include "console.h"
 
 /* What makes an access: M-mode's in the firmware, S- and U-mode's in the memory that is open to them. */
     .macro accesses mode
