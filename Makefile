@@ -28,7 +28,6 @@ PREFIX ?= /usr/local
 SECONDS ?= 600
 HART ?= qemu-system-riscv64 -M virt -cpu rv64,x-epmp=true -m 16M -display none -monitor none -serial stdio -bios ELF
 PROGRAM = crates/pmp_tool/out/pmp_tool
-GROWTHS = crates/pmp_growths/out/pmp_growths
 STRESS = crates/pmp_stress/out/pmp_stress
 LIBRARY = crates/pmp_c/out/libpmp_c.a
 export PREFIX DESTDIR
@@ -88,7 +87,7 @@ test:
 	    'checks/hostile $(PROGRAM)' \
 	    'checks/machines $(PROGRAM)' \
 	    'checks/rv32 $(PROGRAM)' \
-	    'checks/growths $(GROWTHS)' \
+	    'checks/growths $(STRESS)' \
 	    'checks/plans --plans 200 $(PROGRAM)'
 
 # Notes that rt ci has proved the program.

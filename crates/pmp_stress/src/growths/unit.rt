@@ -2,8 +2,8 @@
 
 ghost use Rattle.std.specs.Prelude.{◌+◌, ◌<◌};
 
-use crate::stop::{Stop, Tried, expect};
-use crate::worked::{batch, decision_after, events, file_after, is_journal_of, page_load};
+use crate::growths::stop::{Stop, Tried, expect};
+use crate::growths::worked::{batch, decision_after, events, file_after, is_journal_of, page_load};
 use pmp_share::{Checker, Notice, Publisher};
 use std::sync::Wait;
 

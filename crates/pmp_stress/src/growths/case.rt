@@ -2,9 +2,9 @@
 
 ghost use Rattle.std.specs.Prelude.{◌≡◌, ◌+◌, ◌<◌};
 
-use crate::stop::{Stop, Tried};
-use crate::unit::{goes_on, is_notice_of, submit_all};
-use crate::worked::{batch, decision_after, events, file_after, is_journal_of, page_load};
+use crate::growths::stop::{Stop, Tried};
+use crate::growths::unit::{goes_on, is_notice_of, submit_all};
+use crate::growths::worked::{batch, decision_after, events, file_after, is_journal_of, page_load};
 use pmp_core::{Access, Csr, Mode, Perms};
 use pmp_share::{Checker, GROUP_ACCESSES, Notice, Publisher, ShareFault, start, start_from};
 use std::alloc::Global;

@@ -1,6 +1,6 @@
 //! What is published in turn, and what follows from it.
 
-use crate::stop::Stop;
+use crate::growths::stop::Stop;
 use pmp_core::{Access, Cause, Csr, Decision, Event, Kind, Mode, RegFile};
 use pmp_share::{Batch, Journal};
 
