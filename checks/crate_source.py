@@ -94,6 +94,11 @@ class Source:
         others = [it for it in text[:end].splitlines(True) if "#[tactic(" not in it]
         return start, start + end, "".join([*others, "#[tactic(none)]\n"])
 
+    def attribute(self, place):
+        """What the tactics of a function are given, as crate paths with the crate's own name."""
+        found = re.search(r"#\[tactic\((.*)\)\]", self.text_of(place))
+        return found[1].replace("crate::", f"{self.name}::") if found else ""
+
     def called(self, place):
         """What a function becomes that is only called: where it stands, and its contract over a body that nothing
         proves, and which calls nothing. None where it has to stay as it is."""
@@ -246,12 +251,23 @@ class Source:
         return None if names & self.types else reached
 
 
-def searched(proof, goals, goal):
-    """A proof's file with an answer by a search; the goal has the names of its arguments behind it."""
+def answered(proof, goals, goal, tactic, attribute):
+    """A proof's file with an answer by a tactic; the goal has the names of its arguments behind it. The tactic takes
+    what the function's attribute names: lemmas to use, and definitions to unfold."""
     name = goal.partition(" ")[0]
-    heads = [] if re.search(r"^use .*\brules\b", proof, re.M) else ["use Rattle.std.proofs.Common.{rules}"]
+    given = {word: [it.strip().rpartition("::") for it in paths.split(",")]
+             for word, paths in re.findall(r"(using|unfolding)\(([^)]*)\)", attribute)}
+    said = ["rules"] if tactic == "search" else ["arith", "common_steps"]
+    wanted = [("Rattle.std.proofs.Common", "rules")] if tactic == "search" else [
+        ("Rattle.std.proofs.Common", "arith"), ("Rattle.std.proofs.lemmas.Grind", "common_steps")]
+    wanted += [(f"Rattle.{path.replace('::', '.')}", it) for paths in given.values() for path, _, it in paths]
+    heads = [f"use {path}.{{{it}}}" for path, it in wanted
+             if not re.search(rf"^use .*[{{ ]{re.escape(it)}[,}}]", proof, re.M)]
     heads += [] if " as goal\n" in proof else [f"use Rattle.{goals} as goal"]
-    return "\n".join([*heads, proof, f"pub {name} : goal.{name}", f"{goal} = search rules", ""])
+    said += [it for _, _, it in given.get("using", [])]
+    unfolded = [f"unfolding {' '.join(it for _, _, it in given['unfolding'])}"] if "unfolding" in given else []
+    terms = said[0] if len(said) == 1 else f"({', '.join(said)})"
+    return "\n".join([*heads, proof, f"pub {name} : goal.{name}", *unfolded, f"{goal} = {tactic} {terms}", ""])
 
 
 def edited(text, at, to, changes):
