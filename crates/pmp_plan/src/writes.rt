@@ -24,14 +24,25 @@ fn needs_lockdown(entry: &Chosen) -> bool {
     entry.configuration % 4 == 2
 }
 
+/// What an entry has until MML is 1. In the place of a locked rule of W without R, by which M-mode executes, it has one
+/// of R and X, by which it does so before MML is 1 and after.
+fn before_lockdown(entry: &Chosen) -> u8 {
+    match entry.configuration {
+        configuration if !needs_lockdown(entry) => configuration,
+        configuration if configuration >= 0x80 => configuration & !7 | 5,
+        _ => 0,
+    }
+}
+
 /// The bytes of so many entries from this one on, as a configuration register has them.
 fn word(entries: &[Chosen], first: usize, count: usize, is_locked_down: bool) -> u64 {
     let mut bytes = [0; 8];
     for place in 0..bytes.len() {
-        if let Some(entry) = entries.get(first.saturating_add(place)) {
-            if place < count && (is_locked_down || !needs_lockdown(entry)) {
-                bytes[place] = entry.configuration;
-            }
+        match entries.get(first.saturating_add(place)) {
+            Some(entry) if place >= count => {}
+            Some(entry) if is_locked_down => bytes[place] = entry.configuration,
+            Some(entry) => bytes[place] = before_lockdown(entry),
+            None => {}
         }
     }
     u64::from_le_bytes(bytes)
@@ -74,8 +85,8 @@ impl Writes {
 /// The writes that leave these entries and these bits of `mseccfg` on a hart that was reset.
 ///
 /// RLB is set first, where MML or RLB is asked for: entries may then be locked, and be executable, in any order, and
-/// machine mode goes on by them once MML is set. Addresses come before configurations, so that no entry matches bytes
-/// on the way that it doesn't match in the end.
+/// M-mode goes on by them once MML is set. Addresses come before configurations, so that no entry matches bytes on the
+/// way that it doesn't match in the end.
 pub fn writes_of(hart: Hart, security: Security, entries: &[Chosen]) -> ArrayVec<Event, WRITES> {
     let mut writes = Writes {
         list: ArrayVec::new(),
