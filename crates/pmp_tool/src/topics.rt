@@ -292,10 +292,8 @@ how an access is decided, since when, and what the deciding entry is.
   LOCK                         -, bypassed or frozen, as in entry lines
   HELD                         held if it and all entries before it are frozen,
                                otherwise -
-  CONFIGURED                   the line that changed its configuration byte
-                               last, 0 if none did
-  ADDRESSED                    the line that changed its address register last,
-                               0 if none did
+  CONFIGURED, ADDRESSED        the lines that changed its configuration byte and
+                               its address register last, 0 if none did
   LOWEND                       if it is TOR and not entry 0, the line that
                                changed the address register before it last;
                                otherwise empty
@@ -504,12 +502,11 @@ below 2^64. Without `0x` it is decimal.
 
 `pmp map` writes `FIRST,LAST,OWNER,MRIGHTS,SURIGHTS` for each run: adjacent
 bytes with one owner, or with none.
-  FIRST     the byte address of the run's first byte
-  LAST      that of its last byte
-  OWNER     the lowest-numbered entry that matches these bytes, or - if no entry
-            does
-  MRIGHTS   what M-mode may do there: r, w and x, or - for each
-  SURIGHTS  the same for S-mode and U-mode
+  FIRST, LAST        the byte addresses of the run's first and last byte
+  OWNER              the lowest-numbered entry that matches these bytes, or - if
+                     no entry does
+  MRIGHTS, SURIGHTS  what M-mode, and what S-mode and U-mode, may do there: r, w
+                     and x, or - for each
 
 An access within one run is decided by its rights. One across runs is denied,
 `split` by its lowest-numbered owner.
@@ -710,15 +707,15 @@ at LINE.
   7 late-write          a frozen entry is a reason why a register doesn't read
                         what is written to it. Write the register before the
                         entry is locked, or leave the write out.
-  LINE   for 1 the line that changed RLB last, for 2 MML or MMWP, for 3 to 5 the
-         entry's byte or its address register; 0 if none did, or if no entry
-         owns the bytes; for 6 and 7 the event's own line
-  ENTRY  the entry's number; empty for 1, 2 and 6, and if no entry owns the
-         bytes
-  FIRST  the byte address of the first byte that the entry matches, for 5 and 6
-         of the bytes that are found; otherwise empty
-  LAST   that of the last one, or empty
-  MODES  the letters of the modes, M, SU or MSU, for 5 and 6; otherwise empty
+  LINE         for 1 the line that changed RLB last, for 2 MML or MMWP, for 3 to
+               5 the entry's byte or its address register; 0 if none did, or if
+               no entry owns the bytes; for 6 and 7 the event's own line
+  ENTRY        the entry's number; empty for 1, 2 and 6, and if no entry owns
+               the bytes
+  FIRST, LAST  the byte addresses of the first and the last byte that the entry
+               matches, for 5 and 6 of the bytes that are found; otherwise empty
+  MODES        the letters of the modes, M, SU or MSU, for 5 and 6; otherwise
+               empty
 
 With `--names FILE`, `check` and `why` take a name as START, or NAME`+`OFFSET, a
 number of bytes after its first byte. `policy`, `map`, `entries`, `lint`, `diff`
@@ -750,15 +747,14 @@ below 2^64. Without `0x` it is decimal.
 `pmp diff` writes `FIRST,LAST,MOLD,SUOLD,MNEW,SUNEW,CHANGE` for the longest
 ranges of bytes whose rights differ between two scripts' register files, whoever
 owns the bytes, from the lowest address on.
-  FIRST   the byte address of the first byte
-  LAST    that of the last byte
-  MOLD    what M-mode may do there by the old script: r, w and x, or - for each
-  SUOLD   the same for S-mode and U-mode
-  MNEW    what M-mode may do there by the new script
-  SUNEW   the same for S-mode and U-mode
-  CHANGE  more if the new rights have all of the old ones, less if the old
-          rights have all of the new ones, otherwise both. --only more leaves
-          out rows that say less, and --only less those that say more
+  FIRST, LAST  the byte addresses of the first and the last byte
+  MOLD, SUOLD  what M-mode, and what S-mode and U-mode, may do there by the old
+               script: r, w and x, or - for each
+  MNEW, SUNEW  the same by the new script
+  CHANGE       more if the new rights have all of the old ones, less if the old
+               rights have all of the new ones, otherwise both. --only more
+               leaves out rows that say less, and --only less those that say
+               more
 
 Only the two states are compared, not what was open before them. With `--locks`,
 rows `FIRST,LAST,LOCKOLD,LOCKNEW` follow, also by address: one for each of the
@@ -812,15 +808,14 @@ after the other hart's name, and with `--locks` those of locks too.
 `pmp diff` writes `FIRST,LAST,MOLD,SUOLD,MNEW,SUNEW,CHANGE` for the longest
 ranges of bytes whose rights differ between two scripts' register files, whoever
 owns the bytes, from the lowest address on.
-  FIRST   the byte address of the first byte
-  LAST    that of the last byte
-  MOLD    what M-mode may do there by the old script: r, w and x, or - for each
-  SUOLD   the same for S-mode and U-mode
-  MNEW    what M-mode may do there by the new script
-  SUNEW   the same for S-mode and U-mode
-  CHANGE  more if the new rights have all of the old ones, less if the old
-          rights have all of the new ones, otherwise both. --only more leaves
-          out rows that say less, and --only less those that say more
+  FIRST, LAST  the byte addresses of the first and the last byte
+  MOLD, SUOLD  what M-mode, and what S-mode and U-mode, may do there by the old
+               script: r, w and x, or - for each
+  MNEW, SUNEW  the same by the new script
+  CHANGE       more if the new rights have all of the old ones, less if the old
+               rights have all of the new ones, otherwise both. --only more
+               leaves out rows that say less, and --only less those that say
+               more
 
 Only the two states are compared, not what was open before them. With `--locks`,
 rows `FIRST,LAST,LOCKOLD,LOCKNEW` follow, also by address: one for each of the
@@ -921,13 +916,13 @@ array to paste into firmware. Options give the hart, by default RV64 with 16
 entries and Smepmp, and its MML, MMWP and RLB, by default 0. Before anything is
 written, the writes are run, and the result is compared with the plan, byte by
 byte. `pmp plan --of SCRIPT` turns a script's final registers into a plan.
-  first   the byte address of the first byte; rows may come in any order
-  last    that of the last byte, not below first
-  m       the rights of M-mode, as r-x; bytes of no row have rwx, with --mml
-          rw-, and with --mmwp none
-  su      those of S-mode and U-mode; bytes of no row have none
-  locked  yes if the bytes are to be locked until reset, otherwise no
-  name    a name, in the form that --names takes
+  first, last  the byte addresses of the first byte and of the last one, not
+               below it; rows may come in any order
+  m            the rights of M-mode, as r-x; bytes of no row have rwx, with
+               --mml rw-, and with --mmwp none
+  su           those of S-mode and U-mode; bytes of no row have none
+  locked       yes if the bytes are to be locked until reset, otherwise no
+  name         a name, in the form that --names takes
 
 Exit status:
   0  the answer is written
