@@ -136,8 +136,10 @@ address, or `N,unmet,,,,`; then, if the header has them, `,NAME,COMMENT`.
 
   1,broken,0,00000000000000,0000000000000f,-
 
-`pmp dump` writes each register's name, a space and its value. The order depends
-on the script's version:
+`pmp dump` writes each register's name, a space and its value: `pmpcfg0`,
+`pmpcfg2` and so on, on RV32 also `pmpcfg1` and so on, `pmpaddr0` and so on, as
+far as the hart has entries, and `mseccfg`. That is 19 lines for version 1, 73
+for version 2.
 
   pmpcfg0 0x000000000000001b
   pmpcfg2 0x0000000000000000
@@ -353,8 +355,8 @@ for each row of the trace, in order.
 memory doesn't grow with it. It reads the trace once, in pieces of at most
 8,388,608 bytes, and writes rows as pieces are decided, so a refusal may follow
 whole rows, those of the trace's beginning. If standard error is a terminal and
-standard output isn't, a line there says how much was read. `--jobs` and
-`--first-row` go only with `--long`, `--checkers` only without.
+standard output isn't, a line there says once a second how much was read.
+`--jobs` and `--first-row` go only with `--long`, `--checkers` only without.
 
 Exit status:
   0  every access of the trace, if it has any, is allowed
@@ -388,15 +390,15 @@ A policy lists demands on ranges of bytes, over publications of a script:
 
 It is read as a trace is: CSV of at most 16,777,216 bytes, that header, and
 numbered rows:
-  from    the first moment that the row asks about: a number of publications, at
-          most as many as there are; 0 is before the first
-  to      the last one, not below from and at most as many as there are; if
-          empty, the number of all
-  modes   one to three of the letters M, S and U, none twice
-  kind    fetch, load, store or any
-  first   the byte address of the first byte, a number
-  last    that of the last byte, inclusive: not below first, and below 2^56
-  demand  never, always or held
+  from         the first moment that the row asks about: a number of
+               publications, at most as many as there are; 0 is before the first
+  to           the last one, not below from and at most as many as there are; if
+               empty, the number of all
+  modes        one to three of the letters M, S and U, none twice
+  kind         fetch, load, store or any
+  first, last  the byte addresses of the first byte and of the last one,
+               inclusive: numbers below 2^56, the last not below the first
+  demand       never, always or held
 
 With a script of version 3, `from` and `to` may also name a moment, and so
 survive a change of the firmware. `--after` takes these words too, and so does
@@ -436,9 +438,9 @@ address, or `N,unmet,,,,`; then, if the header has them, `,NAME,COMMENT`.
                  With --each-write, by which a policy also asks after each event
                  after publication from, up to to, it is after how many events,
                  as N of the event rows; from and to still count publications
-  FIRST          the byte address of the first byte of the range at fault there
-  LAST           that of the last byte after it with the same owner, within the
-                 range
+  FIRST, LAST    the byte addresses of the first byte of the range at fault
+                 there, and of the last one after it with the same owner, within
+                 the range
   OWNER          the number of the entry that owns them, or - if no entry
                  matches
   NAME, COMMENT  the row's, as fields of CSV: in quotes if they have a comma or
@@ -472,13 +474,10 @@ pub const MORE_OF_DUMP: &str = "\
 A number is 1 to 20 decimal digits, or `0x` and 1 to 16 hexadecimal digits,
 below 2^64. Without `0x` it is decimal.
 
-`pmp dump` writes each register's name, a space and its value. The order depends
-on the script's version:
-- 1: pmpcfg0, pmpcfg2, pmpaddr0 to pmpaddr15, mseccfg: 19 lines
-- 2: pmpcfg0, pmpcfg2, pmpcfg4, .. pmpcfg14, pmpaddr0 to pmpaddr63, mseccfg: 73
-  lines
-- 3: likewise those of the hart's entries, on RV32 with pmpcfg1 and so on, and
-  mseccfg
+`pmp dump` writes each register's name, a space and its value: `pmpcfg0`,
+`pmpcfg2` and so on, on RV32 also `pmpcfg1` and so on, `pmpaddr0` and so on, as
+far as the hart has entries, and `mseccfg`. That is 19 lines for version 1, 73
+for version 2.
 
 With `--script` it writes a script of version 3 that begins with this register
 file and has no publication: the lines of the hart, with its XLEN if that is 32,
@@ -572,21 +571,21 @@ below 2^64. Without `0x` it is decimal.
 `pmp entries` writes
 `ENTRY,MATCHING,FIRST,LAST,MRIGHTS,SURIGHTS,LOCK,ADDRESS,SINCE,HOLDS` for each
 entry, in order.
-  ENTRY     the entry's number
-  MATCHING  its A: off, tor, na4 or napot
-  FIRST     the byte address of the first byte that it matches, or - if it
-            matches none
-  LAST      that of the last one, or -
-  MRIGHTS   what M-mode may do if it decides: r, w and x, or - for each
-  SURIGHTS  the same for S-mode and U-mode
-  LOCK      - if its L is 0; bypassed if its L and RLB are 1; frozen if its L is
-            1 and RLB is 0: then the entry is frozen
-  ADDRESS   frozen if its address register takes no write, because the entry is
-            frozen, or the next one is frozen and TOR; otherwise -
-  SINCE     if it is frozen, the publication from which on it is so without a
-            break, 0 if the script begins so; otherwise empty
-  HOLDS     if it and all entries before it are frozen, the publication from
-            which on all of them are; otherwise empty
+  ENTRY              the entry's number
+  MATCHING           its A: off, tor, na4 or napot
+  FIRST, LAST        the byte addresses of the first and the last byte that it
+                     matches, or - if it matches none
+  MRIGHTS, SURIGHTS  what M-mode, and what S-mode and U-mode, may do if it
+                     decides: r, w and x, or - for each
+  LOCK               - if its L is 0; bypassed if its L and RLB are 1; frozen if
+                     its L is 1 and RLB is 0: then the entry is frozen
+  ADDRESS            frozen if its address register takes no write, because the
+                     entry is frozen, or the next one is frozen and TOR;
+                     otherwise -
+  SINCE              if it is frozen, the publication from which on it is so
+                     without a break, 0 if the script begins so; otherwise empty
+  HOLDS              if it and all entries before it are frozen, the publication
+                     from which on all of them are; otherwise empty
 
 A frozen entry keeps its configuration byte and the bytes that it matches
 through all later writes without a reset. From publication HOLDS on, until a
@@ -868,31 +867,31 @@ FOLDER` makes a folder with one for each hart that writes, like `hart0.pmp`.
   spike    core   0: 3 0x0000000080000008 (0x3a0312f3) c928_pmpcfg0
            0x0000000000000018, as --log-commits writes
   dump     pmpcfg0 0x0000000000000018, as pmp dump writes
-  a write        It becomes a write, and, without --bursts, a publication of its
-                 own.
-  a read         It becomes an expect, and so does the value that a register has
-                 after a write in Spike's log.
-  a register     One that a debugger shows becomes a set, unless it is zero.
-  bits 63 to 54  On RV64, set and expect leave out these bits of a pmpaddr,
-                 which QEMU before 11 keeps; a comment says so.
-  resets         They become one reset if no line of the hart is between them,
-                 and none before its first line.
-  moments        mark start names the one before the first event, mark reset the
-                 one after the first reset, and mark reset2, mark reset3 and so
-                 on those after the next ones, so that policies can name them.
-  the hart       A file is read twice. The script is of the hart that writes
-                 first, or is shown first. It has 64 entries if a register of an
-                 entry after the 16th isn't 0 (a write to the address register
-                 of entry 16 alone, with which OpenSBI probes for it, doesn't
-                 count), XLEN 32 if a line is one of RV32, and otherwise the
-                 defaults of a script. Options give another hart. Standard input
-                 is read once, so options or the defaults give it. A line on
-                 standard error says what was taken.
-  --folder       Each script is what --hart gives. Neither that nor standard
-                 input goes with it (24), and harts have numbers below 64. The
-                 folder must not exist yet, or be empty (42). It is written
-                 beside its place, with .part after its name, and gets its name
-                 when it is whole.
+  a write, a read  A write becomes a write, and, without --bursts, a publication
+                   of its own. A read becomes an expect, and so does the value
+                   that a register has after a write in Spike's log.
+  a register       One that a debugger shows becomes a set, unless it is zero.
+  bits 63 to 54    On RV64, set and expect leave out these bits of a pmpaddr,
+                   which QEMU before 11 keeps; a comment says so.
+  resets           They become one reset if no line of the hart is between them,
+                   and none before its first line.
+  moments          mark start names the one before the first event, mark reset
+                   the one after the first reset, and mark reset2, mark reset3
+                   and so on those after the next ones, so that policies can
+                   name them.
+  the hart         A file is read twice. The script is of the hart that writes
+                   first, or is shown first. It has 64 entries if a register of
+                   an entry after the 16th isn't 0 (a write to the address
+                   register of entry 16 alone, with which OpenSBI probes for it,
+                   doesn't count), XLEN 32 if a line is one of RV32, and
+                   otherwise the defaults of a script. Options give another
+                   hart. Standard input is read once, so options or the defaults
+                   give it. A line on standard error says what was taken.
+  --folder         Each script is what --hart gives. Neither that nor standard
+                   input goes with it (24), and harts have numbers below 64. The
+                   folder must not exist yet, or be empty (42). It is written
+                   beside its place, with .part after its name, and gets its
+                   name when it is whole.
 
 Exit status:
   0  the answer is written
