@@ -137,9 +137,8 @@ address, or `N,unmet,,,,`; then, if the header has them, `,NAME,COMMENT`.
   1,broken,0,00000000000000,0000000000000f,-
 
 `pmp dump` writes each register's name, a space and its value: `pmpcfg0`,
-`pmpcfg2` and so on, on RV32 also `pmpcfg1` and so on, `pmpaddr0` and so on, as
-far as the hart has entries, and `mseccfg`. That is 19 lines for version 1, 73
-for version 2.
+`pmpcfg2` and so on, on RV32 `pmpcfg1` too, `pmpaddr0` and so on, as far as the
+hart has entries, and `mseccfg`: 19 lines in version 1, 73 in 2.
 
   pmpcfg0 0x000000000000001b
   pmpcfg2 0x0000000000000000
@@ -475,9 +474,8 @@ A number is 1 to 20 decimal digits, or `0x` and 1 to 16 hexadecimal digits,
 below 2^64. Without `0x` it is decimal.
 
 `pmp dump` writes each register's name, a space and its value: `pmpcfg0`,
-`pmpcfg2` and so on, on RV32 also `pmpcfg1` and so on, `pmpaddr0` and so on, as
-far as the hart has entries, and `mseccfg`. That is 19 lines for version 1, 73
-for version 2.
+`pmpcfg2` and so on, on RV32 `pmpcfg1` too, `pmpaddr0` and so on, as far as the
+hart has entries, and `mseccfg`: 19 lines in version 1, 73 in 2.
 
 With `--script` it writes a script of version 3 that begins with this register
 file and has no publication: the lines of the hart, with its XLEN if that is 32,
@@ -582,8 +580,9 @@ entry, in order.
   ADDRESS            frozen if its address register takes no write, because the
                      entry is frozen, or the next one is frozen and TOR;
                      otherwise -
-  SINCE              if it is frozen, the publication from which on it is so
-                     without a break, 0 if the script begins so; otherwise empty
+  SINCE              if it is frozen, the publication from which on it is so,
+                     with no reset after it, 0 if the script begins so;
+                     otherwise empty
   HOLDS              if it and all entries before it are frozen, the publication
                      from which on all of them are; otherwise empty
 
