@@ -506,7 +506,8 @@ bytes with one owner, or with none.
                      and x, or - for each
 
 An access within one run is decided by its rights. One across runs is denied,
-`split` by its lowest-numbered owner.
+`split` by its lowest-numbered owner. The runs cover byte 0 to byte 2^56 - 1,
+and neighbours have different owners: at most 33 with 16 entries, 129 with 64.
 
 With `--names FILE`, `check` and `why` take a name as START, or NAME`+`OFFSET, a
 number of bytes after its first byte. `policy`, `map`, `entries`, `lint`, `diff`
@@ -754,8 +755,9 @@ owns the bytes, from the lowest address on.
                leaves out rows that say less, and --only less those that say
                more
 
-Only the two states are compared, not what was open before them. With `--locks`,
-rows `FIRST,LAST,LOCKOLD,LOCKNEW` follow, also by address: one for each of the
+Only the two states are compared, not what was open before them; the scripts may
+be one file, or of different versions. With `--locks`, rows
+`FIRST,LAST,LOCKOLD,LOCKNEW` follow, also by address: one for each of the
 longest ranges of bytes whose lock differs. `--only` keeps them all.
   held      its owner and all entries before it are frozen, or no entry owns it
             and all entries are
@@ -815,8 +817,9 @@ owns the bytes, from the lowest address on.
                leaves out rows that say less, and --only less those that say
                more
 
-Only the two states are compared, not what was open before them. With `--locks`,
-rows `FIRST,LAST,LOCKOLD,LOCKNEW` follow, also by address: one for each of the
+Only the two states are compared, not what was open before them; the scripts may
+be one file, or of different versions. With `--locks`, rows
+`FIRST,LAST,LOCKOLD,LOCKNEW` follow, also by address: one for each of the
 longest ranges of bytes whose lock differs. `--only` keeps them all.
   held      its owner and all entries before it are frozen, or no entry owns it
             and all entries are
