@@ -1,10 +1,10 @@
 -- What is written for the text of a plan, and why nothing is.
-use Rattle.std.specs.Prelude.{◌≡◌, ◌⊎◌, ℕ, ◌<◌, List, length, Option, Ok, Err, map}
+use Rattle.std.specs.Prelude.{◌≡◌, ◌⊎◌, ℕ, ◌<◌, List, length, Option, Ok, Err, map, true}
 use Rattle.std.specs.Io.KnownBytes.{Appends, Keeps}
-use Rattle.std.specs.List.{AllPairs}
+use Rattle.std.specs.List.{AllPairs, list_all}
 use Rattle.pmp_core.specs.declared.event.Event.{Event}
 use Rattle.pmp_core.specs.declared.hart.Profile.{Profile}
-use Rattle.pmp_core.specs.Histories.{replay}
+use Rattle.pmp_core.specs.Histories.{is_write, replay}
 use Rattle.pmp_text.specs.Bytes.{AppendsBeginning}
 use Rattle.pmp_text.specs.declared.trace.TraceFault.{TraceFault}
 use Rattle.pmp_text.specs.declared.refusal.Refusal.TheVariants.{TooLong}
@@ -25,12 +25,13 @@ use Rattle.pmp_plan.specs.PlanScripts.{MeansPlan}
 use Rattle.pmp_plan.specs.PlanTexts.{plan_said}
 use Rattle.pmp_plan.specs.Plans.{MeetsPlan}
 
--- the text tells of writes that leave registers which meet the plan: as a script that is run from its first line on, or
--- as an array of writes to a hart that was reset
+-- the text tells of writes that leave registers which meet the plan, on a hart that was reset: as a script, or as an array
+-- of all of them
 abbrev pub IsText : Profile → Security → Form → List PlanRow → (text : List ℕ) → Type 0
 IsText hart security Script rows text = MeansPlan hart security rows text
 IsText hart security Array rows text =
-    (writes : List Event) × (text ≡ array_text writes) × MeetsPlan hart security rows (replay hart writes)
+    (writes : List Event) × (list_all is_write writes ≡ true) × (text ≡ array_text writes)
+    × MeetsPlan hart security rows (replay hart writes)
 
 -- and no two rows have a byte in common
 abbrev pub IsTold : Profile → Security → Form → List PlanRow → (text : List ℕ) → Type 0

@@ -1,6 +1,7 @@
 -- The plan that a script's registers amount to.
 use Rattle.std.specs.Prelude.{◌≡◌, ℕ, List, Option, Ok, Err, map}
 use Rattle.std.specs.Io.KnownBytes.{Appends, Keeps}
+use Rattle.std.specs.List.{AllPairs}
 use Rattle.pmp_core.specs.RegisterFile.{RegisterFile}
 use Rattle.pmp_text.specs.Bytes.{AppendsBeginning}
 use Rattle.pmp_text.specs.Contents.{ScriptContents}
@@ -14,13 +15,15 @@ use Rattle.pmp_plan.specs.declared.fault.PlanFault.TheVariants.{Memory}
 use Rattle.pmp_plan.specs.declared.plan_row.PlanRow.{PlanRow}
 use Rattle.pmp_plan.specs.declared.security.Security.{Security}
 use Rattle.pmp_plan.specs.KeptRows.{said}
+use Rattle.pmp_plan.specs.PlanFaults.{AreApart}
 use Rattle.pmp_plan.specs.PlanTexts.{plan_said}
 use Rattle.pmp_plan.specs.Plans.{MeetsPlan}
 
--- the text says a plan, which the register file meets on its hart
+-- the text says a plan, no two of whose rows have a byte in common, and which the register file meets on its hart
 pub record IsPlanOf (file : RegisterFile) (text : List ℕ) : Type 0 where
   pub rows : List PlanRow
   pub are : plan_said text ≡ Ok (map said rows)
+  pub apart : AllPairs AreApart rows
   pub security : Security
   pub met : MeetsPlan file.profile security rows file
 

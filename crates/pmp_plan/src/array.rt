@@ -1,6 +1,8 @@
 //! The writes of a plan as an array in C.
 
-ghost use Rattle.std.specs.Prelude.{◌≡◌, ◌++◌, OnOk, Some};
+ghost use Rattle.std.specs.Prelude.{◌≡◌, ◌++◌, OnOk, Some, true};
+ghost use Rattle.std.specs.List.{list_all};
+ghost use Rattle.pmp_core.specs.Histories.{is_write};
 ghost use Rattle.pmp_plan.specs.PlanArrays.{array_line, array_text, csr_number};
 
 use pmp_core::{Csr, Event};
@@ -38,12 +40,23 @@ impl fmt::Display for Element {
     }
 }
 
+/// Whether none is a reset, for which an array has no element.
+fn are_writes(events: &[Event]) -> bool
+    ensures { result ≡ list_all is_write events.now }
+{
+    events.iter().all(|event| matches!(event, Event::Write(..)))
+}
+
 /// Appends the writes as an array in C, of CSR numbers and values in the order in which they are to be written.
 ///
 /// Where memory runs out, a part of it may have been appended.
 pub fn append_array<S: Sink>(out: &mut S, writes: &[Event]) -> Result<(), NoMemory>
-    ensures { OnOk result (S.text out.new ≡ S.text out.old ++ array_text writes.now) }
+    ensures writes { OnOk result (list_all is_write writes.now ≡ true) }
+    ensures text { OnOk result (S.text out.new ≡ S.text out.old ++ array_text writes.now) }
 {
+    if !are_writes(writes) {
+        return Err(NoMemory);
+    }
     out.append(
         b"static const struct { unsigned csr; unsigned long long value; } pmp_writes[] = {\n",
     )?;

@@ -8,6 +8,7 @@ use crate::fault::PlanFault;
 use crate::judge::meets;
 use crate::plan_row::Demand;
 use crate::reading::{HEADER, read_plan};
+use crate::row_faults::overlap;
 use crate::security::Security;
 use pmp_core::{ADDRESS_LIMIT, Csr, Kind, Perms, RegFile, Registers};
 use pmp_map::{ModeRights, Run, is_held, run_around};
@@ -106,13 +107,13 @@ fn text_of(alloc: Global, file: &RegFile, security: Security) -> Result<Vec<u8>,
     Ok(text)
 }
 
-/// Whether the text is read as a plan that the register file meets.
+/// Whether the text is read as a plan with no byte in two rows that the register file meets.
 fn is_plan_of(alloc: Global, text: &[u8], file: &RegFile, security: Security) -> bool
     ensures { IsTrue result → IsPlanOf file.now text.now }
 {
     match read_plan(alloc, text) {
-        Ok(rows) => meets(file, file.hart(), security, &rows),
-        Err(_) => false,
+        Ok(rows) if overlap(&rows).is_none() => meets(file, file.hart(), security, &rows),
+        _ => false,
     }
 }
 

@@ -18,7 +18,7 @@ fn are_apart(one: &PlanRow<'_>, other: &PlanRow<'_>) -> bool
 }
 
 /// The first two rows that have a byte in common.
-fn overlap(rows: &[PlanRow<'_>]) -> Option<(usize, usize)>
+pub fn overlap(rows: &[PlanRow<'_>]) -> Option<(usize, usize)>
     ensures { MatchOption result (AllPairs AreApart rows.now) (λ pair. AreOverlapping rows.now pair.0 pair.1) }
 {
     for row in 0..rows.len() {

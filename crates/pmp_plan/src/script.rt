@@ -46,7 +46,7 @@ fn script_of(hart: Hart, writes: &[Event]) -> Result<ArrayVec<u8, SCRIPT>, NoMem
     Ok(text)
 }
 
-/// Whether the text is read as a script that leaves registers which meet the plan.
+/// Whether the text is read as a script that begins with a reset and leaves registers which meet the plan.
 fn means_plan(text: &[u8], hart: Hart, security: Security, rows: &[PlanRow<'_>]) -> bool
     ensures { IsTrue result → MeansPlan hart security rows.now text.now }
 {
@@ -55,6 +55,9 @@ fn means_plan(text: &[u8], hart: Hart, security: Security, rows: &[PlanRow<'_>])
         return false;
     };
     let mut file = script.start();
+    if file != RegFile::reset_on(hart) {
+        return false;
+    }
     file.run_events(script.events());
     meets(&file, hart, security, rows)
 }

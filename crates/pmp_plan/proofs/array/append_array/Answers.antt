@@ -9,8 +9,8 @@ joined before mid all head body end first second =
     ap (λ (l : List ℕ). l ++ end) (second ∙ ap (λ (l : List ℕ). l ++ body) first)
     ∙ append_assoc (before ++ head) body end ∙ append_assoc before head (body ++ end)
 
-pub returns : goal.returns
-returns g c =
+pub returns-clause-text : goal.returns-clause-text
+returns-clause-text g c =
     let text = g.S.Sink.text in
     let whole = take_all c.loop-event.event-index c.args.writes.now (omega (arith, c.loop-event-test.false)) in
     let all = rw whole at c.loop-event.invariant in
