@@ -63,39 +63,27 @@ fn is_read(checker: &mut Checker) -> bool {
     checker.read(Csr::Cfg(0)).0 == RULES
 }
 
-/// What so many calls answer, added up.
-fn sum<F: FnMut(&Access) -> u32>(calls: u32, loads: &Loads, mut call: F) -> u32
-    requires { F.IsAlwaysCallable call }
-{
-    let mut sum = 0u32;
-    for index in 0..calls {
-        sum = sum.wrapping_add(call(&loads[index as usize % 16]));
-    }
-    sum
-}
-
 /// How many of many loads are allowed, or of other calls answered as they have to be.
 pub fn right_calls(call: Call, checker: &mut Checker, loads: &Loads) -> u32 {
-    match call {
-        Call::Map => {
-            let file = file();
-            let map = RunMap::build(&file);
-            sum(
-                CALLS,
-                loads,
-                |load| u32::from(is_allowed_by_map(&map, &file, load)),
-            )
-        }
-        Call::Decision => sum(CALLS, loads, |load| u32::from(is_allowed(checker, load))),
-        Call::Group => sum(CALLS / 16, loads, |_| allowed_of_group(checker, loads)),
-        Call::Rights => sum(
-            CALLS,
-            loads,
-            |load| u32::from(is_open(checker, load.start % (1 << 55))),
-        ),
-        Call::Count => sum(CALLS, loads, |_| u32::from(is_counted(checker))),
-        Call::Register => sum(CALLS, loads, |_| u32::from(is_read(checker))),
+    let file = file();
+    let map = RunMap::build(&file);
+    let mut right = 0u32;
+    for index in 0..if matches!(call, Call::Group) {
+        CALLS / 16
+    } else {
+        CALLS
+    } {
+        let load = &loads[index as usize % 16];
+        right = right.wrapping_add(match call {
+            Call::Map => u32::from(is_allowed_by_map(&map, &file, load)),
+            Call::Decision => u32::from(is_allowed(checker, load)),
+            Call::Group => allowed_of_group(checker, loads),
+            Call::Rights => u32::from(is_open(checker, load.start % (1 << 55))),
+            Call::Count => u32::from(is_counted(checker)),
+            Call::Register => u32::from(is_read(checker)),
+        });
     }
+    right
 }
 
 /// Has the checker learn so often what it knows already.

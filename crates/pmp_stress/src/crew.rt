@@ -51,12 +51,16 @@ fn make_calls<R: Clock + Wait>(
     let loads = loads();
     meeting.wait(rt);
     let since = Moment::now(rt);
-    let right = loads.map(|loads| right_calls(call, checker, &loads));
+    let right = match &loads {
+        Ok(loads) => right_calls(call, checker, loads),
+        Err(_) => 0,
+    };
     let time = since.each(rt, CALLS);
     meeting.leave();
-    match right? {
-        CALLS => Ok(time),
-        _ => Err(Failure::Answer),
+    if right == CALLS {
+        Ok(time)
+    } else {
+        Err(Failure::Answer)
     }
 }
 
@@ -70,9 +74,13 @@ fn serve<R: Clock + Wait>(
     match duty {
         Duty::Calls(call) => {
             let time = make_calls(rt, &mut checker, call, meeting);
+            let (outcome, time) = match time {
+                Ok(time) => (Ok(()), time),
+                Err(failure) => (Err(failure), 0),
+            };
             Done {
-                outcome: time.map(|_| ()),
-                time: time.unwrap_or(0),
+                outcome,
+                time,
                 answers: Vec::new(alloc),
                 checker: None,
             }
@@ -116,9 +124,10 @@ impl Crew {
         let (runtime, alloc) = (*rt, self.alloc);
         let meeting = Arc::try_clone(&self.meeting)?;
         let thread = move || serve(&runtime, alloc, checker, duty, &meeting);
-        let thread = thread::spawn(rt, thread).map_err(|_| Failure::Thread)?;
-        self.threads.push(thread)?;
-        Ok(())
+        match thread::spawn(rt, thread) {
+            Ok(thread) => Ok(self.threads.push(thread)?),
+            Err(_) => Err(Failure::Thread),
+        }
     }
 
     /// What came of all of them, once the last has ended.

@@ -1,5 +1,6 @@
 //! Why there is nothing to compare or to time.
 
+use pmp_core::AccessFault;
 use pmp_share::{BatchFull, ShareFault};
 use std::alloc::{AllocError, AllocFailed};
 use std::io;
@@ -39,6 +40,12 @@ impl<T: Drop> From<AllocFailed<T>> for Failure {
 
 impl From<BatchFull> for Failure {
     fn from(_full: BatchFull) -> Failure {
+        Failure::Unlawful
+    }
+}
+
+impl From<AccessFault> for Failure {
+    fn from(_fault: AccessFault) -> Failure {
         Failure::Unlawful
     }
 }

@@ -34,7 +34,10 @@ use std::process::ExitCode;
 
 /// The word, or none.
 fn text(word: &Option<String>) -> &str {
-    word.as_ref().map_or("", |word| word.as_str())
+    match word {
+        Some(word) => word.as_str(),
+        None => "",
+    }
 }
 
 /// The word as a number, or the other one.

@@ -85,6 +85,6 @@ impl Random {
         let kind = [Kind::Fetch, Kind::Load, Kind::Store][self.below(3) as usize];
         let start = 4 * FIRST_WORD + u64::from(self.below(4 * WORDS));
         let length = 1 + u64::from(self.below(64));
-        Access::new(mode, kind, start, length).map_err(|_| Failure::Unlawful)
+        Ok(Access::new(mode, kind, start, length)?)
     }
 }

@@ -52,8 +52,8 @@ pub fn soak<R: Clock + Threads + Wait + Print + Copy + Send + 'static>(
     let mut random = Random::new(u64::from(seed));
     let mut tally = Tally::default();
     for _ in 0..u64::MAX {
-        for swapped in [None, Some(Size::Sixteen), Some(Size::SixtyFour)] {
-            let (random, swap) = (random.branch(), swapped.map(|size| Swap(size)));
+        for swap in [None, Some(Swap(Size::Sixteen)), Some(Swap(Size::SixtyFour))] {
+            let random = random.branch();
             tally = run_round(rt, alloc, Source { random, swap }, tally)?;
         }
         if since.nanoseconds(rt) / 1_000_000_000 >= u64::from(seconds) {

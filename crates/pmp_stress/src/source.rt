@@ -71,7 +71,7 @@ impl Swap {
 
     /// A load from the page by user mode.
     fn load(self) -> Result<Access, Failure> {
-        Access::new(Mode::U, Kind::Load, PAGE, 4).map_err(|_| Failure::Unlawful)
+        Ok(Access::new(Mode::U, Kind::Load, PAGE, 4)?)
     }
 
     /// Whether these may be the registers after so many events: the first entry reads the page after each whole round,
@@ -82,11 +82,14 @@ impl Swap {
             4 => (1, 0x1900),
             _ => return false,
         };
+        let Ok(load) = self.load() else {
+            return false;
+        };
         let read = Decision {
             allowed: true,
             cause: Cause::Rule(self.entry(behind)),
         };
-        self.load().is_ok_and(|load| file.decide(&load) == read)
+        file.decide(&load) == read
             && file.read(self.register()) == self.value(both)
             && rights_in(&file.registers(), Mode::U, PAGE, 4096) == Some(Perms::R)
     }
@@ -103,10 +106,11 @@ impl Source {
 
     /// What the unit begins with.
     pub fn base(&mut self) -> Result<RegFile, Failure> {
-        let mut file = RegFile::reset_of(self.swap.map_or(Size::Sixteen, |swap| swap.0));
-        if self.swap.is_none() {
-            file.run_events(self.random.batch(0)?.events());
+        if let Some(Swap(size)) = self.swap {
+            return Ok(RegFile::reset_of(size));
         }
+        let mut file = RegFile::reset();
+        file.run_events(self.random.batch(0)?.events());
         Ok(file)
     }
 
@@ -119,7 +123,10 @@ impl Source {
 
     /// The register that is read.
     pub fn register(&self) -> Csr {
-        self.swap.map_or(Csr::Cfg(0), |swap| swap.register())
+        match self.swap {
+            Some(swap) => swap.register(),
+            None => Csr::Cfg(0),
+        }
     }
 
     /// The batches of the publication with this number, with at least one event.
@@ -137,6 +144,9 @@ impl Source {
 
     /// Whether these may be the registers after so many events, as far as the source knows.
     pub fn fits(&self, file: &RegFile, events: u64) -> bool {
-        self.swap.is_none_or(|swap| swap.fits(file, events))
+        match self.swap {
+            Some(swap) => swap.fits(file, events),
+            None => true,
+        }
     }
 }

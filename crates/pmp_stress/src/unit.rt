@@ -37,7 +37,7 @@ fn regions() -> [Event; REGIONS + 2] {
 
 /// A load of eight bytes by user mode.
 fn load(entry: u8) -> Result<Access, Failure> {
-    Access::new(Mode::U, Kind::Load, region(entry), 8).map_err(|_| Failure::Unlawful)
+    Ok(Access::new(Mode::U, Kind::Load, region(entry), 8)?)
 }
 
 /// One from each region.

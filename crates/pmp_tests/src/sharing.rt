@@ -1,21 +1,15 @@
 //! One unit and its tokens on one thread.
 
 mod asking;
-mod copying;
 mod ending;
-mod groups;
 mod guards;
 mod limits;
 mod reading;
 mod rings;
 mod sending;
-mod starting;
 mod unit;
 
-use pmp_core::{Csr, Event, Size};
-use std::alloc::Global;
-use std::process::Abort;
-use std::sync::Wait;
+use pmp_core::{Csr, Event};
 use unit::{BY_NO_ENTRY, Seat, Unit, by_entry};
 
 /// Entry 0 reads a page.
@@ -32,7 +26,7 @@ const ENTRY_ONE: [Event; 2] = [
 
 #[test]
 fn learnt_batches_are_decided_in_whole(rt: HostRuntime) {
-    let mut unit = Unit::start(&rt, rt.alloc(), Size::Sixteen);
+    let mut unit = Unit::start(&rt, rt.alloc());
     unit.look(&rt, Seat::First, BY_NO_ENTRY, 0);
     unit.publish(&rt, &ENTRY_ZERO, 2);
     unit.inform(&rt, Seat::First);
@@ -47,46 +41,12 @@ fn learnt_batches_are_decided_in_whole(rt: HostRuntime) {
 /// A checker that looked at nothing but what it learnt would answer in 0 and in 2 events.
 #[test]
 fn a_checker_looks_without_a_notice(rt: HostRuntime) {
-    let mut unit = Unit::start(&rt, rt.alloc(), Size::Sixteen);
+    let mut unit = Unit::start(&rt, rt.alloc());
     unit.publish(&rt, &ENTRY_ZERO, 2);
     unit.inform(&rt, Seat::Second);
     unit.look(&rt, Seat::First, by_entry(0), 2);
     unit.publish(&rt, &ENTRY_ONE, 4);
     unit.look(&rt, Seat::First, by_entry(1), 4);
     unit.look(&rt, Seat::Second, by_entry(1), 4);
-    unit.close(&rt);
-}
-
-#[test]
-fn submitted_batches_are_withdrawn_unseen(rt: HostRuntime) {
-    let mut unit = Unit::start(&rt, rt.alloc(), Size::Sixteen);
-    unit.publish(&rt, &ENTRY_ZERO, 2);
-    unit.submit(&rt, &ENTRY_ONE);
-    unit.assert_lens(&rt, 2, 2);
-    unit.look(&rt, Seat::First, by_entry(0), 2);
-    unit.withdraw();
-    unit.assert_lens(&rt, 2, 0);
-    unit.publish(&rt, &[], 2);
-    unit.look(&rt, Seat::First, by_entry(0), 2);
-    unit.close(&rt);
-}
-
-/// Another unit, which is published to beside the first.
-fn publish_beside<R: Wait + Abort>(rt: &R, alloc: Global, first: &mut Unit) {
-    let mut other = Unit::start(rt, alloc, Size::Sixteen);
-    other.look(rt, Seat::First, BY_NO_ENTRY, 0);
-    other.publish(rt, &ENTRY_ZERO, 2);
-    other.publish(rt, &ENTRY_ONE, 4);
-    first.look(rt, Seat::First, by_entry(0), 2);
-    other.look(rt, Seat::First, by_entry(1), 4);
-    other.close(rt);
-}
-
-#[test]
-fn units_beside_each_other_stay_apart(rt: HostRuntime) {
-    let mut unit = Unit::start(&rt, rt.alloc(), Size::Sixteen);
-    unit.publish(&rt, &ENTRY_ZERO, 2);
-    publish_beside(&rt, rt.alloc(), &mut unit);
-    unit.look(&rt, Seat::First, by_entry(0), 2);
     unit.close(&rt);
 }

@@ -6,12 +6,6 @@ use pmp_core::*;
 use pmp_map::Run;
 
 /// `==` tells values of these types apart, and says that equal ones are the same.
-fn are_same_accesses(one: &Access, other: &Access) -> bool
-    ensures { IsTrue result ↔ one.now ≡ other.now }
-{
-    one == other
-}
-
 fn are_same_decisions(one: &Decision, other: &Decision) -> bool
     ensures { IsTrue result ↔ one.now ≡ other.now }
 {
@@ -45,39 +39,4 @@ fn defaults_refuse(rt: HostRuntime) {
     assert!(rt; are_same_events(&Event::default(), &Event::Reset));
     assert!(rt; are_same_decisions(&Decision::default(), &refused));
     assert!(rt; are_same_runs(&Run::default(), &none));
-}
-
-/// An access by another mode, of another kind, from another byte or of another length is another one.
-#[test]
-fn accesses_differ(rt: HostRuntime) {
-    let load = Access::new(Mode::U, Kind::Load, 8, 4).expect(&rt, "a lawful access");
-    let others = [
-        Access::new(Mode::S, Kind::Load, 8, 4),
-        Access::new(Mode::U, Kind::Store, 8, 4),
-        Access::new(Mode::U, Kind::Load, 4, 4),
-        Access::new(Mode::U, Kind::Load, 8, 8),
-    ];
-    for other in others {
-        assert!(rt; !are_same_accesses(&load, &other.expect(&rt, "a lawful access")));
-    }
-    assert!(rt; are_same_accesses(&load, &load));
-}
-
-/// Registers that no number of a CSR names take no write, and read zero.
-#[test]
-fn other_registers_change_nothing(rt: HostRuntime) {
-    for size in [Size::Sixteen, Size::SixtyFour] {
-        for csr in [
-            Csr::Cfg(1),
-            Csr::Cfg(16),
-            Csr::Cfg(255),
-            Csr::Addr(64),
-            Csr::Addr(255),
-        ] {
-            let mut file = RegFile::reset_of(size);
-            file.step(Event::Write(csr, u64::MAX));
-            assert!(rt; file == RegFile::reset_of(size));
-            assert!(rt; file.read(csr) == 0);
-        }
-    }
 }

@@ -39,11 +39,7 @@ fn is_new<R: Wait>(rt: &R, (publisher, checkers): (Publisher, Vec<Checker>)) -> 
 fn rings(alloc: Global, publisher: &mut Publisher) -> Result<bool, ShareFault> {
     let (mut sender, mut receiver) = publisher.notice_ring(alloc, 1)?;
     let sent = sender.send(publisher.tell()?).is_ok();
-    Ok(
-        sent && receiver
-            .receive()
-            .is_some_and(|notice| is_notice_of(&notice, 2)),
-    )
+    Ok(sent && matches!(receiver.receive(), Some(notice) if is_notice_of(&notice, 2)))
 }
 
 /// Whether a group of equal accesses has equal decisions.
@@ -72,7 +68,10 @@ fn publishes<R: Wait>(
     match case {
         // Both vectors of pending batches have to grow.
         "submit" => match batch(6) {
-            Ok(seventh) => publisher.submit(&seventh).map(|()| true),
+            Ok(seventh) => {
+                publisher.submit(&seventh)?;
+                Ok(true)
+            }
             Err(_) => Ok(false),
         },
         "publish" => Ok(publisher.publish(rt)? == events(6)),

@@ -1,6 +1,7 @@
 //! Why a case stops.
 
-use pmp_share::ShareFault;
+use pmp_core::AccessFault;
+use pmp_share::{BatchFull, ShareFault};
 
 #[derive(Clone, Copy)]
 pub enum Stop {
@@ -14,6 +15,18 @@ pub enum Stop {
 
 /// `Ok` where the call answered as it has to.
 pub type Tried = Result<(), Stop>;
+
+impl From<AccessFault> for Stop {
+    fn from(_fault: AccessFault) -> Stop {
+        Stop::Wrong("no access")
+    }
+}
+
+impl From<BatchFull> for Stop {
+    fn from(_full: BatchFull) -> Stop {
+        Stop::Wrong("a full batch")
+    }
+}
 
 impl From<ShareFault> for Stop {
     fn from(fault: ShareFault) -> Stop {

@@ -25,7 +25,7 @@ fn writes(place: u8) -> [Event; 2] {
 }
 
 pub fn batch(place: u8) -> Result<Batch, Stop> {
-    Batch::of(&writes(place)).map_err(|_| Stop::Wrong("a full batch"))
+    Ok(Batch::of(&writes(place))?)
 }
 
 /// How many events the first batches have.
@@ -43,7 +43,7 @@ pub fn file_after(batches: u8) -> RegFile {
 
 /// A load from the page by user mode.
 pub fn page_load() -> Result<Access, Stop> {
-    Access::new(Mode::U, Kind::Load, 0x80000000, 4).map_err(|_| Stop::Wrong("no access"))
+    Ok(Access::new(Mode::U, Kind::Load, 0x80000000, 4)?)
 }
 
 /// What that load comes to.

@@ -7,7 +7,7 @@ ghost use Rattle.pmp_share.specs.Object.{Decides};
 
 use super::unit::{Unit, by_entry};
 use super::{ENTRY_ONE, ENTRY_ZERO};
-use pmp_core::{Access, Decision, Size};
+use pmp_core::{Access, Decision};
 use pmp_share::laws::law_same_events;
 use pmp_share::{Checker, Moved, Notice};
 
@@ -47,7 +47,7 @@ pub fn ask_both(
 /// are now.
 #[test]
 fn workers_told_alike_decide_alike(rt: HostRuntime) {
-    let mut unit = Unit::start(&rt, rt.alloc(), Size::Sixteen);
+    let mut unit = Unit::start(&rt, rt.alloc());
     unit.publish(&rt, &ENTRY_ZERO, 2);
     unit.assert_both_answer(&rt, &[], 2, Ok(by_entry(0)));
     unit.assert_both_answer(&rt, &ENTRY_ONE, 4, Err(Moved { seen: 4 }));

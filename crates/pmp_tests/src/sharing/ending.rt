@@ -2,13 +2,12 @@
 
 use super::unit::{Seat, Unit, by_entry, look};
 use super::{ENTRY_ONE, ENTRY_ZERO};
-use pmp_core::Size;
 use pmp_share::ShareFault;
 
 /// The first has looked at all, and the second learns the last events then.
 #[test]
 fn checkers_decide_after_the_end(rt: HostRuntime) {
-    let mut unit = Unit::start(&rt, rt.alloc(), Size::Sixteen);
+    let mut unit = Unit::start(&rt, rt.alloc());
     unit.publish(&rt, &ENTRY_ZERO, 2);
     unit.look(&rt, Seat::Second, by_entry(0), 2);
     unit.publish(&rt, &ENTRY_ONE, 4);
@@ -25,7 +24,7 @@ fn checkers_decide_after_the_end(rt: HostRuntime) {
 /// nor the second, which learns the last notice. A body that published it, or gave it back with the rest, is refused.
 #[test]
 fn what_is_pending_ends_unseen(rt: HostRuntime) {
-    let mut unit = Unit::start(&rt, rt.alloc(), Size::Sixteen);
+    let mut unit = Unit::start(&rt, rt.alloc());
     unit.publish(&rt, &ENTRY_ZERO, 2);
     unit.publish(&rt, &[], 2);
     unit.look(&rt, Seat::First, by_entry(0), 2);

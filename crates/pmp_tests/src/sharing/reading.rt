@@ -1,8 +1,8 @@
-//! Counts, registers and the rights of ranges, which look as decisions do.
+//! Counts and registers, which look as decisions do.
 
-use super::unit::{end, publish, submit};
+use super::unit::{end, publish};
 use super::{ENTRY_ONE, ENTRY_ZERO};
-use pmp_core::{Csr, Mode, Perms};
+use pmp_core::Csr;
 use pmp_share::{Checker, Publisher, start};
 use std::alloc::Global;
 use std::process::Abort;
@@ -29,27 +29,4 @@ fn a_count_looks_without_a_notice(rt: HostRuntime) {
     assert!(rt; second.count() == 4);
     end(&rt, publisher);
     assert!(rt; first.count() == 4);
-}
-
-#[test]
-fn firmware_reads_what_is_pending(rt: HostRuntime) {
-    let (mut publisher, mut first, _) = unit_of_two(&rt, rt.alloc());
-    submit(&rt, &mut publisher, &ENTRY_ONE);
-    assert!(rt; publisher.read(Csr::Cfg(0)) == 0x1900);
-    assert!(rt; first.read(Csr::Cfg(0)) == (0x19, 2));
-    publisher.withdraw();
-    assert!(rt; publisher.read(Csr::Cfg(0)) == 0x19);
-    end(&rt, publisher);
-}
-
-/// Of the range of two pages entry 0 has the first alone. After the end the register file is asked.
-#[test]
-fn a_range_has_the_rights_of_its_owner(rt: HostRuntime) {
-    let (publisher, mut first, _) = unit_of_two(&rt, rt.alloc());
-    assert!(rt; first.rights(Mode::U, 0x80000000, 0x1000) == (Some(Perms::R), 2));
-    assert!(rt; first.rights(Mode::U, 0x80000000, 0x2000) == (None, 2));
-    assert!(rt; first.rights(Mode::U, 0x80001000, 0x1000) == (Some(Perms::NONE), 2));
-    end(&rt, publisher);
-    assert!(rt; first.rights(Mode::M, 0x80000fff, 1) == (Some(Perms::RWX), 2));
-    assert!(rt; first.rights(Mode::M, 0x80000fff, 2) == (None, 2));
 }

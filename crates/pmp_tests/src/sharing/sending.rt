@@ -2,10 +2,9 @@
 
 ghost use Rattle.std.specs.Prelude.{◌≡◌};
 
-use super::ENTRY_ZERO;
-use super::unit::{BY_NO_ENTRY, look, publish, tell, unit_of_one};
+use super::unit::{publish, tell};
 use pmp_core::Event;
-use pmp_share::{Checker, Journal, Notice, NoticeReceiver, NoticeSender, PublisherGuard, start};
+use pmp_share::{Checker, Notice, NoticeReceiver, NoticeSender, PublisherGuard, start};
 use std::process::Abort;
 use std::sync::Wait;
 use std::thread;
@@ -80,22 +79,4 @@ fn each_notice_comes_once_and_in_order(rt: HostRuntime) {
     learn_all(&rt, checker, receiver);
     let journal = thread.join(&rt).into_publisher().end(&rt);
     assert!(rt; journal.events().len() as u64 == NOTICES);
-}
-
-/// Publishes entry 0, and ends the publisher.
-fn run_firmware<R: Wait + Abort + Drop>(rt: &R, guard: PublisherGuard<R>) -> Journal {
-    let mut publisher = guard.into_publisher();
-    publish(rt, &mut publisher, &ENTRY_ZERO, 2);
-    publisher.end(rt)
-}
-
-/// A checker that never looked knows nothing then.
-#[test]
-fn a_publisher_ends_on_its_thread(rt: HostRuntime) {
-    let (publisher, mut checker) = unit_of_one(&rt, rt.alloc());
-    let guard = PublisherGuard::new(rt, publisher);
-    let thread = thread::spawn(&rt, move || run_firmware(&rt, guard));
-    let journal = thread.ok().expect(&rt, "a thread").join(&rt);
-    assert!(rt; journal.events() == ENTRY_ZERO.as_slice());
-    look(&rt, &mut checker, BY_NO_ENTRY, 0);
 }

@@ -1,14 +1,11 @@
 //! A publisher with two checkers, and what tests have them do.
 
-ghost use Rattle.std.specs.Prelude.{◌≡◌, ◌≤◌, length};
-ghost use Rattle.pmp_share.specs.declared.question.TheConstants.{GROUP_ACCESSES};
+ghost use Rattle.std.specs.Prelude.{◌≡◌};
 ghost use Rattle.pmp_share.specs.Known.{known};
 
 use super::asking::ask_both;
-use pmp_core::{Access, Cause, Decision, Event, Kind, Mode, Size};
-use pmp_share::{
-    Batch, Checker, GROUP_ACCESSES, Journal, Moved, Notice, Publisher, start, start_of,
-};
+use pmp_core::{Access, Cause, Decision, Event, Kind, Mode};
+use pmp_share::{Batch, Checker, Journal, Moved, Notice, Publisher, start};
 use std::alloc::Global;
 use std::process::Abort;
 use std::sync::Wait;
@@ -73,21 +70,6 @@ pub fn look(rt: &impl Abort, checker: &mut Checker, decision: Decision, count: u
     assert!(rt; decided == decision && seen == count);
 }
 
-/// Asserts the same of a group of accesses.
-pub fn look_at_group(
-    rt: &impl Abort,
-    checker: &mut Checker,
-    accesses: &[Access],
-    decisions: &[Decision],
-    count: u64,
-)
-    requires { length accesses.now ≤ GROUP_ACCESSES }
-    ensures { checker.new.unit ≡ checker.old.unit }
-{
-    let (decided, seen) = checker.decide_group(accesses);
-    assert!(rt; decided.as_slice() == decisions && seen == count);
-}
-
 /// One of two checkers.
 #[derive(Clone, Copy)]
 pub enum Seat {
@@ -115,8 +97,8 @@ pub struct Left {
 }
 
 impl Unit {
-    pub fn start<R: Wait + Abort>(rt: &R, alloc: Global, size: Size) -> Unit {
-        let (publisher, mut checkers) = start_of(rt, alloc, size, 2).expect(rt, "memory");
+    pub fn start<R: Wait + Abort>(rt: &R, alloc: Global) -> Unit {
+        let (publisher, mut checkers) = start(rt, alloc, 2).expect(rt, "memory");
         let second = checkers.pop().expect(rt, "two checkers");
         let first = checkers.pop().expect(rt, "two checkers");
         Unit {
@@ -133,16 +115,6 @@ impl Unit {
     /// As the function `publish`.
     pub fn publish<R: Wait + Abort>(&mut self, rt: &R, events: &[Event], count: u64) {
         publish(rt, &mut self.publisher, events, count);
-    }
-
-    pub fn withdraw(&mut self) {
-        self.publisher.withdraw();
-    }
-
-    /// Asserts how many events are published, and how many are pending.
-    pub fn assert_lens(&self, rt: &impl Abort, published: u64, pending: u64) {
-        assert!(rt; self.publisher.journal_len() == published);
-        assert!(rt; self.publisher.pending_len() == pending);
     }
 
     /// Has a checker learn of what is published.
@@ -162,19 +134,6 @@ impl Unit {
         }
     }
 
-    /// As the function `look_at_group`, for the first checker.
-    pub fn look_at_group(
-        &mut self,
-        rt: &impl Abort,
-        accesses: &[Access],
-        decisions: &[Decision],
-        count: u64,
-    )
-        requires { length accesses.now ≤ GROUP_ACCESSES }
-    {
-        look_at_group(rt, &mut self.first, accesses, decisions, count);
-    }
-
     /// Tells both checkers of what is published, publishes more events, after which there are so many, and asserts what
     /// both answer of a load from the page in what they were told.
     pub fn assert_both_answer<R: Wait + Abort>(
@@ -191,12 +150,6 @@ impl Unit {
         let (first, second) = (&mut self.first, &mut self.second);
         let (one, other) = ask_both(first, second, to_first, to_second, &access);
         assert!(rt; one == answer && other == answer);
-    }
-
-    /// Asserts what a copied journal has.
-    pub fn assert_journal(&mut self, rt: &impl Abort, events: &[Event], ends: &[u64]) {
-        let journal = self.first.copy_journal().expect(rt, "memory");
-        assert!(rt; journal.events() == events && journal.ends() == ends);
     }
 
     /// Ends the publisher, and drops what is left.
