@@ -218,7 +218,7 @@ impl Refusal {
                 "a name of 1 to 64 bytes: a letter, then letters, digits, _ and ., and none of last, mml, mmwp and rlb",
             Refusal::OpenMark => "mark between publications",
             Refusal::NoMoment =>
-                "a moment that the script has: a name that mark or publish gives it, or one that comes",
+                "a moment that the script has: a name from mark or publish, or last, mml and the like, if it occurs",
             Refusal::BadEntry =>
                 "an entry 0 to 63 and a range that it can have here: na4 4 bytes, napot a power of two of 8 or more, each at a multiple of its size, tor from where the entry before it ends to a higher multiple of 4; all below 2^56, with hart xlen 32 below 2^34",
             Refusal::BadEvent =>
@@ -251,7 +251,7 @@ impl Refusal {
             Refusal::OddCfg =>
                 "write both halves to the even one before it; for RV32 firmware begin with pmp 3 and hart xlen 32, above every write",
             Refusal::BadNumber =>
-                "put 0x before hexadecimal digits and nothing behind them; leave out signs and underscores: a register's -1 is 0xffffffffffffffff, on RV32 0xffffffff",
+                "put 0x before hexadecimal digits and nothing after them; leave out signs and underscores: a register's -1 is 0xffffffffffffffff, on RV32 0xffffffff",
             Refusal::BatchFull => "put a publish between them",
             Refusal::Unpublished => "end the script with a publish",
             Refusal::TooLong =>
@@ -259,33 +259,33 @@ impl Refusal {
             Refusal::BadHeader => "make it the first line, above the rows, without blanks",
             Refusal::BadRow =>
                 "write each field in its form and between commas, and nothing else: no blank, comment or line end",
-            Refusal::BadAfter => "ask for fewer, or see whether the script lacks a publish",
+            Refusal::BadAfter => "ask for fewer, or check whether the script lacks a publish",
             Refusal::Order => "sort the trace by its first field",
             Refusal::BadWord => "see the command's help: pmp help check, and so on",
             Refusal::NoPlace => "ask for fewer, or leave --checkers out",
             Refusal::Full => "begin another unit",
-            Refusal::Moved => "please report it: no order of the threads leads there",
+            Refusal::Moved => "please report it: no order of threads should lead here",
             Refusal::Memory => "end other programs, raise the limit, or cut the trace",
-            Refusal::Input => "see that the path is right and may be read",
-            Refusal::Output => "throw away what was written, which is a beginning of the answer",
+            Refusal::Input => "check that the path is right and readable",
+            Refusal::Output => "discard what was written: it is only the beginning of the answer",
             Refusal::LateHead => "move the line above them; a register may be written instead",
             Refusal::Twice => "leave one of the two lines out",
             Refusal::BadEntries =>
-                "give how many PMP entries the hart has, which are those from pmpaddr0 on",
+                "give the number of PMP entries of the hart, counted from pmpaddr0",
             Refusal::BadBits => "give the bits of a physical address, not those of a register",
             Refusal::NotHeld =>
-                "give the hart lines of the hart that had the value; clear the bits that no hart keeps, as 63 to 54 of a pmpaddr, which QEMU before 11 keeps",
+                "describe the hart that had the value by hart lines; clear the bits that no hart keeps, as 63 to 54 of a pmpaddr, which QEMU before 11 keeps",
             Refusal::BadGrain => "give the grain in bytes, not the manual's G",
             Refusal::BadMark => "give the moment another name",
-            Refusal::OpenMark => "put it behind the publish, or name that, as by publish NAME",
+            Refusal::OpenMark => "put it after the publish, or name that, as in publish NAME",
             Refusal::NoMoment =>
                 "look for the script's mark lines and publish lines with a name; pmp writes says when MML, MMWP and RLB change",
             Refusal::BadEntry =>
                 "write the entry before it first, whose address a tor entry begins at, or take napot or na4; give sizes in bytes",
             Refusal::BadEvent =>
-                "see whether the format is the log's; leave out a line that isn't a whole one of it",
+                "check that the format is the log's; leave out lines that are cut short",
             Refusal::NoHart =>
-                "ask for another hart with --hart, or see whether the log has the events of PMP at all",
+                "ask for another hart with --hart, or check that the log has PMP events at all",
             Refusal::BadFormat => "name the program that wrote the log, in lower case",
             Refusal::TooMany =>
                 "cut the script at a publish, and begin the next one with the registers that it leaves",
@@ -295,7 +295,7 @@ impl Refusal {
                 "without MML give M rwx, or in a locked row what S and U have; with MML see the table of Smepmp",
             Refusal::TooFine => "move the row's ends to multiples of the grain, in bytes",
             Refusal::FewEntries => "join rows of the same rights, or move ends to powers of two",
-            Refusal::Stopped => "make the plan smaller: it may have entries all the same",
+            Refusal::Stopped => "make the plan smaller: entries for it may exist nevertheless",
         }
     }
 }

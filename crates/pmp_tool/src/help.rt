@@ -1,4 +1,4 @@
-//! What the program's help says. `topics.rt` has what stands behind the arguments of a command.
+//! The program's help, except what follows the arguments of a command, which is in `topics.rt`.
 
 pub use crate::topics::MORE;
 
@@ -6,163 +6,162 @@ pub use crate::topics::MORE;
 pub const VERSION: &str = "0.2.0";
 
 pub const ABOUT: &str =
-    "Decides accesses to physical memory as the PMP unit of one RISC-V hart does.";
+    "Decides accesses to physical memory as the PMP unit of a RISC-V hart does.";
 
-pub const CHECK: &str = "Decides one access after publications of a script, and writes its row";
+pub const CHECK: &str = "Decides one access after the publications of a script";
 
 pub const WHY: &str =
-    "Says why one access is decided as it is: by which entry, since when, and by which lines of the script";
+    "Explains the decision of one access: by which entry, since when, and which lines of the script set that entry";
 
 pub const AUDIT: &str =
-    "Decides each access of a trace after publications of a script, and writes a row for each";
+    "Decides each access of a trace, each after the publications that it names";
 
 pub const POLICY: &str =
-    "Says whether each row of a policy holds after publications of a script, or where it is broken";
+    "Checks each row of a policy after the publications of a script, and shows where one is broken";
 
-pub const DUMP: &str = "Writes the unit's registers after publications of a script";
+pub const DUMP: &str = "Writes the registers after the publications of a script";
 
 pub const AS_SCRIPT: &str =
-    "Writes a script of version 3 whose unit begins with these registers, in place of a line for each";
+    "Writes a script of version 3 that starts from these registers, instead of a line for each";
 
-pub const MAP: &str = "Writes which bytes each entry owns after publications of a script";
+pub const MAP: &str = "Writes which bytes each entry owns after the publications of a script, and their rights";
 
 pub const PICTURE: &str =
-    "Draws which bytes each entry owns after publications of a script, as an SVG document";
+    "Draws which bytes each entry owns after the publications of a script, as an SVG document";
 
 pub const ENTRIES: &str =
-    "Writes what each entry is and how it is locked, after publications of a script";
+    "Writes each entry and how it is locked after the publications of a script";
 
 pub const WRITES: &str =
-    "Writes what each write of a script changes, and why it isn't stored as written";
+    "Writes what each write of a script changes, and why any of it isn't stored as written";
 
 pub const LINT: &str =
-    "Writes what a reader should look at: locks that don't hold, entries that decide nothing, bytes that are open";
+    "Lists what looks wrong in a script: locks that don't hold, entries that decide nothing, bytes that are open";
 
 pub const DIFF: &str =
-    "Writes where two scripts differ in what they let each mode do, after publications of each";
+    "Lists the bytes in which two scripts give a mode different rights, after the publications of each";
 
 pub const HARTS: &str =
-    "Says whether the harts of a folder are all alike, and else where each differs from the first one";
+    "Compares the harts of a folder: each one with the first";
 
-pub const HARTS_OF: &str = "The path of a folder of scripts, one a hart";
+pub const HARTS_OF: &str = "The path of a folder with one script for each hart";
 
 pub const OLD: &str = "The path of the old script, or stdin";
 
-pub const NEW: &str = "The path of the new script, or stdin where the old one isn't";
+pub const NEW: &str = "The path of the new script, or stdin if the old one isn't";
 
 pub const OLD_AFTER: &str =
-    "Takes the first N publications of the old script, as --after does for pmp map";
+    "The first N publications of the old script, as --after of pmp map; default: all";
 
-pub const NEW_AFTER: &str = "Takes the first M publications of the new script";
+pub const NEW_AFTER: &str = "The first M publications of the new script; default: all";
 
 pub const ONLY: &str =
-    "Writes the rows that gain something, where CHANGE is more, or those that lose something, where it is less";
+    "Only the rows in which something is gained, if CHANGE is more, or lost, if it is less";
 
 pub const LOCKS: &str =
-    "Writes a row too for each of the longest ranges of bytes that the two lock otherwise";
+    "Also a row for each longest range of bytes that the two lock differently";
 
 pub const ACCEPT: &str =
-    "Leaves out findings with the name FINDING, or with FINDING:LINE those of one line";
+    "Leaves out findings named FINDING; with FINDING:LINE, those of that line alone";
 
 pub const SCRIPT: &str =
-    "The path of a script of at most 1048576 bytes, 67108864 with pmp 3, or stdin for standard input; it begins with pmp 1 for a unit of \
-    16 entries, with pmp 2 for one of 64";
+    "The path of a script of at most 1048576 bytes, 67108864 with pmp 3, or stdin for standard input; its first line is \
+    pmp 1 for 16 entries, pmp 2 for 64, pmp 3 for any hart";
 
 pub const TRACE: &str =
-    "The path of a trace of at most 16777216 bytes, with --long of any length, or stdin where the script isn't";
+    "The path of a trace of at most 16777216 bytes, with --long of any length, or stdin if the script isn't";
 
 pub const POLICY_PATH: &str =
-    "The path of a policy of at most 16777216 bytes, or stdin where the script isn't";
+    "The path of a policy of at most 16777216 bytes, or stdin if the script isn't";
 
 pub const EACH_WRITE: &str =
-    "Asks after each write and reset behind publication FROM too, since a hart takes its writes one by one: DONE \
-    counts these events then";
+    "Also checks after each write and reset that follows publication FROM, as a hart makes them one by one; DONE then \
+    counts events";
 
 pub const MODE: &str = "The mode of the access: M, S or U";
 
 pub const KIND: &str = "The kind of the access: fetch, load or store";
 
 pub const START: &str =
-    "The address of its first byte: a number, or with --names NAME or NAME+OFFSET";
+    "The address of its first byte: a number or, with --names, NAME or NAME+OFFSET";
 
-pub const LENGTH: &str = "How many bytes it has, a number from 1 to 4096; it ends at or below 2^56";
+pub const LENGTH: &str = "How many bytes it has, a number from 1 to 4096; it may not reach past 2^56";
 
 pub const EXPLAIN: &str =
-    "Says behind the line of a refusal which input and line it is about, what was wanted there, and what to do";
+    "After a refusal, shows the input and the line at fault, what is expected there, and what to do";
 
 pub const AFTER: &str =
-    "Takes the first N publications, a number up to how many there are, or with pmp 3 those up to the moment last, \
-    last-N, mml, mmwp, rlb-clear or MOMENT; all without this option";
+    "The first N publications, of at most as many as there are; with pmp 3 also those up to the moment last, last-N, \
+    mml, mmwp, rlb-clear or MOMENT; default: all";
 
 pub const EXPECT: &str =
-    "Ends with status 0 where the answer is ANSWER, allow or fault, and with 1 where it is the other; allow without \
-    this option. Say it in a pipeline: 2 and 3 are no answers";
+    "The answer, allow or fault, that gives status 0; the other gives 1. Default: allow. In a pipeline, remember that 2 \
+    and 3 are not answers";
 
 pub const CHECKERS: &str =
-    "Decides the rows by K checkers on threads, a number from 1 to 8; K changes the time, never what is written";
+    "Decides the rows by K checkers on threads, a number from 1 to 8; K changes the time, never the output";
 
 pub const LONG: &str =
-    "Takes a trace of any length, piece by piece, and writes rows as pieces are decided";
+    "Reads a trace of any length piece by piece, and writes rows as pieces are decided";
 
 pub const JOBS: &str =
-    "Decides a long trace by N jobs at a time, a number from 1 to 64; by as many as there are processors without this \
-    option; N changes the time, never what is written";
+    "Decides a long trace by N jobs at a time, a number from 1 to 64; default: the number of processors. N changes the \
+    time, never the output";
 
 pub const FIRST_ROW: &str =
-    "Gives a long trace's first row the number N, from 1 on, and those behind it the next ones; 1 without this option";
+    "Numbers the rows of a long trace from N, which is at least 1; default: 1";
 
 pub const IMPORT: &str =
-    "Writes a script of version 3 of what a simulator or a debugger has logged";
+    "Makes a script of version 3 from the log of a simulator or a debugger";
 
-pub const FORMAT: &str = "The form of the log: qemu, gdb, openocd, spike or dump";
+pub const FORMAT: &str = "The format of the log: qemu, gdb, openocd, spike or dump";
 
 pub const LOG: &str =
-    "The path of the log, of any length, which is read twice, or stdin, which is read once: then the hart is as the \
+    "The path of the log, of any length, which is read twice, or stdin, which is read once: the hart is then what the \
     options say, or hart 0 of RV64 with 16 entries";
 
 pub const HART: &str =
-    "Takes the registers of hart N; those of the first one that writes without this option";
+    "The hart whose registers are read; default: the first that writes";
 
 pub const XLEN: &str =
-    "Says that XLEN is N, 32 or 64; without this option it is 64, or 32 where a log shows so";
+    "XLEN, 32 or 64; default: 64, or 32 if the log shows it";
 
 pub const HART_ENTRIES: &str =
-    "Says that the hart has N entries; without this option it has 16, or 64 where a log has a value of a later one";
+    "The number of entries; default: 16, or 64 if the log has a value of a later entry";
 
 pub const GRAIN: &str =
-    "Says that the hart has a grain of so many bytes; it has 4 without this option";
+    "The grain of the hart in bytes; default: 4";
 
 pub const ADDRESS_BITS: &str =
-    "Says that a physical address has N bits; it has 56 without this option, or 34 on RV32";
+    "The number of bits of a physical address; default: 56, or 34 on RV32";
 
-pub const SMEPMP: &str = "Says whether the hart has Smepmp, yes or no; it has without this option";
+pub const SMEPMP: &str = "Whether the hart has Smepmp, yes or no; default: yes";
 
 pub const BURSTS: &str =
-    "Makes one publication of writes on lines side by side, of at most 64; each has its own without this option";
+    "Joins writes on adjacent lines into one publication, of at most 64; default: a publication for each";
 
 pub const FOLDER: &str =
-    "Makes the folder FOLDER, with a script of each hart that the log has writes of, hart0.pmp and so on; it may not be \
-    there yet";
+    "Makes the folder FOLDER, which may not exist yet, with a script for each hart that has writes in the log: hart0.pmp \
+    and so on";
 
 pub const NAMES: &str =
-    "Takes names of addresses from FILE, which has the line first,last,name and one for each name: each row has those of \
-    its bytes behind it, and START may be one";
+    "Reads names of addresses from FILE, a line first,last,name and then a row for each: each row of the output ends with \
+    the names of its bytes, and START may be a name";
 
 pub const PLAN: &str =
-    "Writes the CSR writes for a plan: a script of version 3, which leaves each byte the rights that the plan has";
+    "Finds CSR writes for a plan: a script of version 3 that gives each byte the rights of the plan";
 
 pub const PLAN_PATH: &str =
-    "The path of a plan of at most 1048576 bytes, with --of that of a script, or stdin for standard input";
+    "The path of a plan of at most 1048576 bytes, with --of of a script, or stdin for standard input";
 
-pub const MML: &str = "Writes them for a hart with MML set";
+pub const MML: &str = "Also sets MML, under whose rules each byte then has the rights of the plan";
 
 pub const MMWP: &str =
-    "Writes them for a hart with MMWP set: M-mode, too, reaches no byte that the plan doesn't have";
+    "Also sets MMWP: even M-mode reaches no byte that the plan doesn't list";
 
-pub const RLB: &str = "Writes them for a hart with RLB set: its locks are bypassed";
+pub const RLB: &str = "Leaves RLB set: locked entries can still be written";
 
-pub const AS_ARRAY: &str = "Writes an array in C of CSR numbers and values in place of a script";
+pub const AS_ARRAY: &str = "Writes a C array of CSR numbers and values instead of a script";
 
 pub const OF: &str =
-    "Writes the plan that the registers of a script amount to, after all its publications; it takes no other option but \
-    --explain";
+    "Writes the plan that a script leads to after all its publications; goes with no other option except --explain";

@@ -88,8 +88,8 @@ after the other hart's name, and with `--locks` those of locks too.
 A number is 1 to 20 decimal digits, or `0x` and 1 to 16 hexadecimal digits,
 below 2^64. Without `0x` it is decimal.
 
-`pmp help script`, `pmp help trace` and `pmp help rows` tell of formats, and
-`pmp help COMMAND` of a command, its words and what it writes. docs/FORMATS.md
+`pmp help script`, `pmp help trace` and `pmp help rows` describe formats, and
+`pmp help COMMAND` a command, its arguments and its output. docs/FORMATS.md
 describes all of it byte by byte, and has every refusal by its number.";
 
 pub const TRACE: &str = "\
@@ -115,8 +115,8 @@ blanks, blank lines are no rows, and there are no comments.
 A number is 1 to 20 decimal digits, or `0x` and 1 to 16 hexadecimal digits,
 below 2^64. Without `0x` it is decimal.
 
-`pmp help script`, `pmp help trace` and `pmp help rows` tell of formats, and
-`pmp help COMMAND` of a command, its words and what it writes. docs/FORMATS.md
+`pmp help script`, `pmp help trace` and `pmp help rows` describe formats, and
+`pmp help COMMAND` a command, its arguments and its output. docs/FORMATS.md
 describes all of it byte by byte, and has every refusal by its number.";
 
 pub const ROWS: &str = "\
@@ -203,8 +203,8 @@ FOLDER` makes a folder with one for each hart that writes, like `hart0.pmp`.
   publish
   pmp: note: hart 0, 16 entries, since the log is read once
 
-`pmp help script`, `pmp help trace` and `pmp help rows` tell of formats, and
-`pmp help COMMAND` of a command, its words and what it writes. docs/FORMATS.md
+`pmp help script`, `pmp help trace` and `pmp help rows` describe formats, and
+`pmp help COMMAND` a command, its arguments and its output. docs/FORMATS.md
 describes all of it byte by byte, and has every refusal by its number.";
 
 pub const MORE: &str = "\
@@ -228,8 +228,8 @@ Example of names of addresses:
   echo 'pmp 1' | pmp check stdin U load firmware+0x10 8 --names names.csv
   It answers 1,fault,5,none,
 
-`pmp help script`, `pmp help trace` and `pmp help rows` tell of formats, and
-`pmp help COMMAND` of a command, its words and what it writes. docs/FORMATS.md
+`pmp help script`, `pmp help trace` and `pmp help rows` describe formats, and
+`pmp help COMMAND` a command, its arguments and its output. docs/FORMATS.md
 describes all of it byte by byte, and has every refusal by its number.";
 
 pub const MORE_OF_CHECK: &str = "\

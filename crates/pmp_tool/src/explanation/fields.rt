@@ -28,7 +28,7 @@ const POLICY: [&str; 9] = [
 const NAMES: [&str; 3] = [
     "first: a byte address, in decimal or with 0x",
     "last: a byte address that isn't below first, in decimal or with 0x",
-    "name: 1 to 64 printable bytes without blanks, quotes, + and commas, of which the first is no digit",
+    "name: 1 to 64 printable bytes without blanks, quotes, + and commas, not beginning with a digit",
 ];
 
 /// Those of a plan.
@@ -38,7 +38,7 @@ const PLAN: [&str; 6] = [
     "m: the rights of M-mode, as rwx, r-x or ---",
     "su: the rights of S-mode and U-mode, as rwx, r-x or ---",
     "locked: yes or no",
-    "name: 1 to 64 printable bytes without blanks, quotes, + and commas, of which the first is no digit",
+    "name: 1 to 64 printable bytes without blanks, quotes, + and commas, not beginning with a digit",
 ];
 
 /// What the field of a plan with this index has to be.
