@@ -13,8 +13,7 @@ pub const CHECK: &str = "Decides one access after the publications of a script";
 pub const WHY: &str =
     "Explains the decision of one access: by which entry, since when, and which lines of the script set that entry";
 
-pub const AUDIT: &str =
-    "Decides each access of a trace, each after the publications that it names";
+pub const AUDIT: &str = "Decides each access of a trace, each after the publications that it names";
 
 pub const POLICY: &str =
     "Checks each row of a policy after the publications of a script, and shows where one is broken";
@@ -24,7 +23,8 @@ pub const DUMP: &str = "Writes the registers after the publications of a script"
 pub const AS_SCRIPT: &str =
     "Writes a script of version 3 that starts from these registers, instead of a line for each";
 
-pub const MAP: &str = "Writes which bytes each entry owns after the publications of a script, and their rights";
+pub const MAP: &str =
+    "Writes which bytes each entry owns after the publications of a script, and their rights";
 
 pub const PICTURE: &str =
     "Draws which bytes each entry owns after the publications of a script, as an SVG document";
@@ -41,8 +41,7 @@ pub const LINT: &str =
 pub const DIFF: &str =
     "Lists the bytes in which two scripts give a mode different rights, after the publications of each";
 
-pub const HARTS: &str =
-    "Compares the harts of a folder: each one with the first";
+pub const HARTS: &str = "Compares the harts of a folder: each one with the first";
 
 pub const HARTS_OF: &str = "The path of a folder with one script for each hart";
 
@@ -58,15 +57,14 @@ pub const NEW_AFTER: &str = "The first M publications of the new script; default
 pub const ONLY: &str =
     "Only the rows in which something is gained, if CHANGE is more, or lost, if it is less";
 
-pub const LOCKS: &str =
-    "Also a row for each longest range of bytes that the two lock differently";
+pub const LOCKS: &str = "Also a row for each longest range of bytes that the two lock differently";
 
 pub const ACCEPT: &str =
     "Leaves out findings named FINDING; with FINDING:LINE, those of that line alone";
 
 pub const SCRIPT: &str =
-    "The path of a script of at most 1048576 bytes, 67108864 with pmp 3, or stdin for standard input; its first line is \
-    pmp 1 for 16 entries, pmp 2 for 64, pmp 3 for any hart";
+    "The path of a script of at most 1048576 bytes, 67108864 with pmp 3, or stdin for standard input; its first line \
+    is pmp 1 for 16 entries, pmp 2 for 64, pmp 3 for any hart";
 
 pub const TRACE: &str =
     "The path of a trace of at most 16777216 bytes, with --long of any length, or stdin if the script isn't";
@@ -85,7 +83,8 @@ pub const KIND: &str = "The kind of the access: fetch, load or store";
 pub const START: &str =
     "The address of its first byte: a number or, with --names, NAME or NAME+OFFSET";
 
-pub const LENGTH: &str = "How many bytes it has, a number from 1 to 4096; it may not reach past 2^56";
+pub const LENGTH: &str =
+    "How many bytes it has, a number from 1 to 4096; it may not reach past 2^56";
 
 pub const EXPLAIN: &str =
     "After a refusal, shows the input and the line at fault, what is expected there, and what to do";
@@ -95,8 +94,8 @@ pub const AFTER: &str =
     mml, mmwp, rlb-clear or MOMENT; default: all";
 
 pub const EXPECT: &str =
-    "The answer, allow or fault, that gives status 0; the other gives 1. Default: allow. In a pipeline, remember that 2 \
-    and 3 are not answers";
+    "The answer, allow or fault, that gives status 0; the other gives 1. Default: allow. In a pipeline, remember that \
+    2 and 3 are not answers";
 
 pub const CHECKERS: &str =
     "Decides the rows by K checkers on threads, a number from 1 to 8; K changes the time, never the output";
@@ -111,8 +110,7 @@ pub const JOBS: &str =
 pub const FIRST_ROW: &str =
     "Numbers the rows of a long trace from N, which is at least 1; default: 1";
 
-pub const IMPORT: &str =
-    "Makes a script of version 3 from the log of a simulator or a debugger";
+pub const IMPORT: &str = "Makes a script of version 3 from the log of a simulator or a debugger";
 
 pub const FORMAT: &str = "The format of the log: qemu, gdb, openocd, spike or dump";
 
@@ -120,17 +118,14 @@ pub const LOG: &str =
     "The path of the log, of any length, which is read twice, or stdin, which is read once: the hart is then what the \
     options say, or hart 0 of RV64 with 16 entries";
 
-pub const HART: &str =
-    "The hart whose registers are read; default: the first that writes";
+pub const HART: &str = "The hart whose registers are read; default: the first that writes";
 
-pub const XLEN: &str =
-    "XLEN, 32 or 64; default: 64, or 32 if the log shows it";
+pub const XLEN: &str = "XLEN, 32 or 64; default: 64, or 32 if the log shows it";
 
 pub const HART_ENTRIES: &str =
     "The number of entries; default: 16, or 64 if the log has a value of a later entry";
 
-pub const GRAIN: &str =
-    "The grain of the hart in bytes; default: 4";
+pub const GRAIN: &str = "The grain of the hart in bytes; default: 4";
 
 pub const ADDRESS_BITS: &str =
     "The number of bits of a physical address; default: 56, or 34 on RV32";
@@ -141,12 +136,12 @@ pub const BURSTS: &str =
     "Joins writes on adjacent lines into one publication, of at most 64; default: a publication for each";
 
 pub const FOLDER: &str =
-    "Makes the folder FOLDER, which may not exist yet, with a script for each hart that has writes in the log: hart0.pmp \
-    and so on";
+    "Makes the folder FOLDER, which may not exist yet, with a script for each hart that has writes in the log: \
+    hart0.pmp and so on";
 
 pub const NAMES: &str =
-    "Reads names of addresses from FILE, a line first,last,name and then a row for each: each row of the output ends with \
-    the names of its bytes, and START may be a name";
+    "Reads names of addresses from FILE, a line first,last,name and then a row for each: each row of the output ends \
+    with the names of its bytes, and START may be a name";
 
 pub const PLAN: &str =
     "Finds CSR writes for a plan: a script of version 3 that gives each byte the rights of the plan";
@@ -156,8 +151,7 @@ pub const PLAN_PATH: &str =
 
 pub const MML: &str = "Also sets MML, under whose rules each byte then has the rights of the plan";
 
-pub const MMWP: &str =
-    "Also sets MMWP: even M-mode reaches no byte that the plan doesn't list";
+pub const MMWP: &str = "Also sets MMWP: even M-mode reaches no byte that the plan doesn't list";
 
 pub const RLB: &str = "Leaves RLB set: locked entries can still be written";
 
