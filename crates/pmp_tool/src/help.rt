@@ -147,7 +147,7 @@ pub const PLAN: &str =
     "Finds CSR writes for a plan: a script of version 3 that gives each byte the rights of the plan";
 
 pub const PLAN_PATH: &str =
-    "The path of a plan of at most 1048576 bytes, with --of of a script, or stdin for standard input";
+    "The path of a plan of at most 1048576 bytes or, with --of, of a script; stdin for standard input";
 
 pub const MML: &str = "Also sets MML, under whose rules each byte then has the rights of the plan";
 
