@@ -286,7 +286,10 @@ impl fmt::Display for Ends {
     fn fmt<W: fmt::Write>(&self, f: &mut fmt::Formatter<W>) -> fmt::Result {
         let first = Hex::<ADDRESS_DIGITS>::new(self.0);
         let last = Hex::<ADDRESS_DIGITS>::new(self.1);
-        write!(f, "<text x='8'>0x{first}</text><text x='148'>0x{last}</text>")
+        write!(
+            f,
+            "<text x='8'>0x{first}</text><text x='148'>0x{last}</text>"
+        )
     }
 }
 
@@ -313,7 +316,10 @@ impl fmt::Display for Permissions {
     fn fmt<W: fmt::Write>(&self, f: &mut fmt::Formatter<W>) -> fmt::Result {
         let machine = Marks(self.0.machine);
         let others = Marks(self.0.others);
-        write!(f, "<text x='592'>{machine}</text><text x='700'>{others}</text>")
+        write!(
+            f,
+            "<text x='592'>{machine}</text><text x='700'>{others}</text>"
+        )
     }
 }
 
@@ -332,7 +338,10 @@ fn write_band<S: Sink>(
     ensures err { OnErr result (S.text out.new ≡ S.text out.old) }
 {
     let rights = ModeRights::of_owner(&file.registers(), run.owner);
-    let strip = Strip { place, rights: rights.others };
+    let strip = Strip {
+        place,
+        rights: rights.others,
+    };
     let ends = Ends(run.first, run.last);
     let extent = Extent(Size::of(run), OwnerName(run.owner));
     let permissions = Permissions(rights);
