@@ -221,11 +221,15 @@ impl PolicyFields {
         ensures ordered { IfOk result (λ row. row.first ≤ row.last) }
     {
         if labeled {
-            let all = nine_fields(fields).ok_or(Refusal::BadRow.whole())?;
-            all.row(moments)
+            match nine_fields(fields) {
+                Some(all) => all.row(moments),
+                None => Err(Refusal::BadRow.whole()),
+            }
         } else {
-            let words = seven_fields(fields).ok_or(Refusal::BadRow.whole())?;
-            PolicyFields::of_words(words, moments)
+            match seven_fields(fields) {
+                Some(words) => PolicyFields::of_words(words, moments),
+                None => Err(Refusal::BadRow.whole()),
+            }
         }
     }
 

@@ -102,7 +102,7 @@ fn read_name(mut operands: Words) -> Result<Option<Name>, Flaw>
     };
     match operands.next() {
         Some(_) => Err(Refusal::BadLine.part(2)),
-        None => Ok(Some(Name::read(word).ok_or(Refusal::BadMark.part(1))?)),
+        None => Name::read(word).map(Some).ok_or(Refusal::BadMark.part(1)),
     }
 }
 
