@@ -97,7 +97,9 @@ impl RowFields {
     pub fn read(fields: &ByteRecord, moments: &Moments<'_>) -> Result<RowFields, Flaw>
         ensures { result ≡ row_in moments.now (fields_of fields.now) }
     {
-        let words = five_fields(fields).ok_or(Refusal::BadRow.whole())?;
+        let Some(words) = five_fields(fields) else {
+            return Err(Refusal::BadRow.whole());
+        };
         match RowFields::of_words(words, moments) {
             Ok(row) => Ok(row),
             Err(_) if words.have_line_end() => Err(Refusal::BadRow.whole()),
