@@ -23,6 +23,11 @@ pub three_appended : (old t₁ t₂ new a b c : List ℕ) → t₁ ≡ old ++ a 
 three_appended old t₁ t₂ new a b c first second last =
     joined old t₁ new a (b ++ c) first (joined t₁ t₂ new b c second last)
 
+-- a text between two others, and what follows the three
+pub between : (opened text closed rest : List ℕ) → (opened ++ (text ++ closed)) ++ rest ≡ opened ++ (text ++ (closed ++ rest))
+between opened text closed rest =
+    append_assoc opened (text ++ closed) rest ∙ ap (λ (l : List ℕ). opened ++ l) (append_assoc text closed rest)
+
 -- a run isn't empty, and ends in memory
 module _ (file : RegisterFile) (runs : List Run) (are : AreRuns file runs) (k : ℕ) (inside : k < length runs)
     (none : Run) where

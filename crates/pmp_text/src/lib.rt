@@ -19,6 +19,7 @@ mod refusal;
 mod script;
 mod sink;
 mod trace;
+mod words;
 
 pub use access_words::{read_kind, read_mode};
 pub use cutter::{Cut, cut_lines, cut_piece};

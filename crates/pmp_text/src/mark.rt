@@ -5,6 +5,8 @@ ghost use Rattle.std.specs.List.{list_all};
 ghost use Rattle.pmp_text.specs.Marks.{begins_with_letter, is_letter, is_name, is_name_byte, is_taken, name_bytes};
 ghost use Rattle.pmp_text.specs.Marks.{name_said, same_name, zero_place};
 
+use crate::words::is_word;
+
 /// The most bytes of a name.
 pub const NAME_BYTES: usize = 64;
 
@@ -48,10 +50,10 @@ fn is_name_byte(byte: u8) -> bool
 fn is_taken(word: &[u8]) -> bool
     ensures { result ≡ is_taken word.now }
 {
-    word == b"last".as_slice()
-        || word == b"mml".as_slice()
-        || word == b"mmwp".as_slice()
-        || word == b"rlb".as_slice()
+    is_word(word, b"last")
+        || is_word(word, b"mml")
+        || is_word(word, b"mmwp")
+        || is_word(word, b"rlb")
 }
 
 fn begins_with_letter(word: &[u8]) -> bool

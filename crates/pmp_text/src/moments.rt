@@ -8,6 +8,7 @@ ghost use Rattle.pmp_text.specs.Moments.{when_said};
 use crate::mark::{Mark, Name};
 use crate::numbers::read_word_number;
 use crate::refusal::Refusal;
+use crate::words::is_word;
 use std::marker::Model;
 
 /// The first moment from which a thing holds to the end, where there is one. A moment is how many publications are
@@ -160,16 +161,16 @@ impl MomentName {
     fn read(word: &[u8]) -> Option<MomentName>
         ensures { result ≡ label_said word.now }
     {
-        if word == b"last".as_slice() {
+        if is_word(word, b"last") {
             return Some(MomentName::Last(0));
         }
-        if word == b"mml".as_slice() {
+        if is_word(word, b"mml") {
             return Some(MomentName::Mml);
         }
-        if word == b"mmwp".as_slice() {
+        if is_word(word, b"mmwp") {
             return Some(MomentName::Mmwp);
         }
-        if word == b"rlb-clear".as_slice() {
+        if is_word(word, b"rlb-clear") {
             return Some(MomentName::RlbClear);
         }
         match word.strip_prefix(b"last-") {

@@ -5,6 +5,7 @@ ghost use Rattle.pmp_text.specs.Names.{plain_number, register_name, register_num
 
 use crate::numbers::read_numeral;
 use crate::refusal::Refusal;
+use crate::words::is_word;
 use pmp_core::{Csr, CsrFault};
 use std::fmt;
 
@@ -34,10 +35,10 @@ pub fn read_plain_number(digits: &[u8], most: u64) -> Option<u64>
 pub fn read_register_number(word: &[u8]) -> Option<u64>
     ensures { result ≡ register_number word.now }
 {
-    if word == b"mseccfg".as_slice() {
+    if is_word(word, b"mseccfg") {
         return Some(MSECCFG);
     }
-    if word == b"mseccfgh".as_slice() {
+    if is_word(word, b"mseccfgh") {
         return Some(MSECCFGH);
     }
     if let Some(digits) = word.strip_prefix(b"pmpcfg") {

@@ -5,15 +5,17 @@ ghost use Rattle.std.specs.Prelude.{IfSome, OnOk, OnErr, Some};
 ghost use Rattle.std.specs.Io.{StartsWith};
 ghost use Rattle.pmp_map.specs.declared.run.TheConstants.{RUNS};
 ghost use Rattle.pmp_map.specs.Runs.{AreRuns, HasOwnersBelow};
-ghost use Rattle.pmp_text.specs.Picture.{IsPicture, band, bands, head, lock_sign, owner_name, size_name, size_of};
-ghost use Rattle.pmp_text.specs.Picture.{size_text, switch_text, title};
+ghost use Rattle.pmp_text.specs.Picture.{IsPicture, band, bands, ends, extent, head, lock_sign, opening};
+ghost use Rattle.pmp_text.specs.Picture.{owner_name, permissions, settings, size_name, size_of, size_text, strip};
+ghost use Rattle.pmp_text.specs.Picture.{switch_text, title};
+ghost use Rattle.pmp_text.specs.Steps.Marks.{perms_text};
 ghost use Rattle.pmp_core.specs.declared.access.TheConstants.{ADDRESS_LIMIT};
 
 use crate::lines::hexadecimal::{ADDRESS_DIGITS, Hex};
 use crate::lines::marks::Marks;
 use crate::lines::{NoMemory, append_line, append_text};
 use crate::sink::Sink;
-use pmp_core::{ADDRESS_LIMIT, Csr, RegFile};
+use pmp_core::{ADDRESS_LIMIT, Csr, Perms, RegFile};
 use pmp_map::{ModeRights, RUNS, Run, RunMap};
 use std::alloc::AllocError;
 use std::fmt;
@@ -163,12 +165,72 @@ fn lock_sign(file: &RegFile, owner: Option<u8>) -> &'static str
     }
 }
 
-/// Which of the bits MML, MMWP and RLB of `mseccfg` are set.
-fn read_switches(file: &RegFile) -> (bool, bool, bool)
-    ensures { record { mml = result.0; mmwp = result.1; rlb = result.2 } ≡ file.now.mseccfg }
-{
-    let bits = file.read(Csr::Mseccfg);
-    (bits % 2 == 1, bits / 2 % 2 == 1, bits / 4 % 2 == 1)
+/// The first tag of a picture of so many bands.
+#[derive(Clone, Copy)]
+struct Opening {
+    bands: usize,
+    ghost few: { bands ≤ RUNS },
+}
+
+impl fmt::Display for Opening {
+    ghost output = { λ tag. Some (opening tag.bands) };
+
+    fn fmt<W: fmt::Write>(&self, f: &mut fmt::Formatter<W>) -> fmt::Result {
+        let height = BAND * self.bands + 176;
+        write!(
+            f,
+            "<svg xmlns='http://www.w3.org/2000/svg' width='960' height='{height}' viewBox='0 0 960 {height}'>\n"
+        )
+    }
+}
+
+/// The title of a picture after so many publications.
+#[derive(Clone, Copy)]
+struct Title(u64);
+
+impl fmt::Display for Title {
+    ghost output = { λ publications. Some (title publications.0) };
+
+    fn fmt<W: fmt::Write>(&self, f: &mut fmt::Formatter<W>) -> fmt::Result {
+        let publications = self.0;
+        write!(f, "PMP memory map, publications done: {publications}")
+    }
+}
+
+/// Which of the bits MML, MMWP and RLB of `mseccfg` are set, as a line.
+#[derive(Clone, Copy)]
+struct Settings {
+    lockdown: bool,
+    policy: bool,
+    bypass: bool,
+}
+
+impl Settings {
+    fn of(file: &RegFile) -> Settings
+        ensures { record { mml = result.lockdown; mmwp = result.policy; rlb = result.bypass } ≡ file.now.mseccfg }
+    {
+        let bits = file.read(Csr::Mseccfg);
+        Settings {
+            lockdown: bits % 2 == 1,
+            policy: bits / 2 % 2 == 1,
+            bypass: bits / 4 % 2 == 1,
+        }
+    }
+}
+
+impl fmt::Display for Settings {
+    ghost output = { λ bits. Some (settings (record { mml = bits.lockdown; mmwp = bits.policy; rlb = bits.bypass })) };
+
+    fn fmt<W: fmt::Write>(&self, f: &mut fmt::Formatter<W>) -> fmt::Result {
+        let lockdown = switch_word(self.lockdown);
+        let policy = switch_word(self.policy);
+        let bypass = switch_word(self.bypass);
+        write!(
+            f,
+            "<text x='16' y='62'>Lockdown (MML) {lockdown}, allow-list policy (MMWP) {policy}, \
+            rule-locking bypass (RLB) {bypass}</text>\n"
+        )
+    }
 }
 
 /// Appends what stands above so many bands.
@@ -182,25 +244,83 @@ fn write_head<S: Sink>(
     ensures ok { OnOk result (S.text out.new ≡ S.text out.old ++ head file.now publications bands) }
     ensures err { OnErr result (S.text out.new ≡ S.text out.old) }
 {
-    let height = BAND * bands + 176;
-    let title = format_args!("PMP memory map, publications done: {publications}");
-    let (lockdown, policy, bypass) = read_switches(file);
-    let lockdown = switch_word(lockdown);
-    let policy = switch_word(policy);
-    let bypass = switch_word(bypass);
-    let opening = format_args!(
-        "<svg xmlns='http://www.w3.org/2000/svg' width='960' height='{height}' viewBox='0 0 960 {height}'>\n"
-    );
-    let spoken = format_args!("<title>{title}</title>\n");
-    let large = format_args!("<text class='large' x='16' y='36'>{title}</text>\n");
-    let settings = format_args!(
-        "<text x='16' y='62'>Lockdown (MML) {lockdown}, allow-list policy (MMWP) {policy}, \
-        rule-locking bypass (RLB) {bypass}</text>\n"
-    );
+    let opening = Opening { bands };
+    let title = Title(publications);
+    let settings = Settings::of(file);
     append_text::<HEAD, _, _>(
         out,
-        format_args!("{opening}{spoken}{STYLE}{large}{settings}{LEGEND}"),
+        format_args!(
+            "{opening}<title>{title}</title>\n{STYLE}<text class='large' x='16' y='36'>{title}</text>\n{settings}{LEGEND}"
+        ),
     )
+}
+
+/// The strip of the band in this place, in the colour of these rights.
+#[derive(Clone, Copy)]
+struct Strip {
+    place: usize,
+    rights: Perms,
+    ghost few: { place < RUNS },
+}
+
+impl fmt::Display for Strip {
+    ghost output = { λ band. Some (strip band.place (perms_text band.rights)) };
+
+    fn fmt<W: fmt::Write>(&self, f: &mut fmt::Formatter<W>) -> fmt::Result {
+        let top = BAND * self.place;
+        let rights = Marks(self.rights);
+        write!(
+            f,
+            "<g class='su{rights}' transform='translate(0,{top})'><rect y='-17' width='928' height='{BAND}'/>"
+        )
+    }
+}
+
+/// The first and the last byte of a run.
+#[derive(Clone, Copy)]
+struct Ends(u64, u64);
+
+impl fmt::Display for Ends {
+    ghost output = { λ bytes. Some (ends bytes.0 bytes.1) };
+
+    fn fmt<W: fmt::Write>(&self, f: &mut fmt::Formatter<W>) -> fmt::Result {
+        let first = Hex::<ADDRESS_DIGITS>::new(self.0);
+        let last = Hex::<ADDRESS_DIGITS>::new(self.1);
+        write!(
+            f,
+            "<text x='8'>0x{first}</text><text x='148'>0x{last}</text>"
+        )
+    }
+}
+
+/// The size of a run, and its owner.
+#[derive(Clone, Copy)]
+struct Extent(Size, OwnerName);
+
+impl fmt::Display for Extent {
+    ghost output = { λ run. Some (extent run.0.0 run.1.0) };
+
+    fn fmt<W: fmt::Write>(&self, f: &mut fmt::Formatter<W>) -> fmt::Result {
+        let Extent(size, owner) = *self;
+        write!(f, "<text x='292'>{size}</text><text x='496'>{owner}</text>")
+    }
+}
+
+/// The rights of machine mode and of the other two.
+#[derive(Clone, Copy)]
+struct Permissions(ModeRights);
+
+impl fmt::Display for Permissions {
+    ghost output = { λ rights. Some (permissions (perms_text rights.0.machine) (perms_text rights.0.others)) };
+
+    fn fmt<W: fmt::Write>(&self, f: &mut fmt::Formatter<W>) -> fmt::Result {
+        let machine = Marks(self.0.machine);
+        let others = Marks(self.0.others);
+        write!(
+            f,
+            "<text x='592'>{machine}</text><text x='700'>{others}</text>"
+        )
+    }
 }
 
 /// Appends the band of the run in this place.
@@ -217,21 +337,15 @@ fn write_band<S: Sink>(
     ensures ok { OnOk result (S.text out.new ≡ S.text out.old ++ band file.now place run.now) }
     ensures err { OnErr result (S.text out.new ≡ S.text out.old) }
 {
-    let top = BAND * place;
-    let first = Hex::<ADDRESS_DIGITS>::new(run.first);
-    let last = Hex::<ADDRESS_DIGITS>::new(run.last);
-    let size = Size::of(run);
-    let owner = OwnerName(run.owner);
     let rights = ModeRights::of_owner(&file.registers(), run.owner);
-    let machine = Marks(rights.machine);
-    let others = Marks(rights.others);
+    let strip = Strip {
+        place,
+        rights: rights.others,
+    };
+    let ends = Ends(run.first, run.last);
+    let extent = Extent(Size::of(run), OwnerName(run.owner));
+    let permissions = Permissions(rights);
     let sign = lock_sign(file, run.owner);
-    let strip = format_args!(
-        "<g class='su{others}' transform='translate(0,{top})'><rect y='-17' width='928' height='{BAND}'/>"
-    );
-    let ends = format_args!("<text x='8'>0x{first}</text><text x='148'>0x{last}</text>");
-    let extent = format_args!("<text x='292'>{size}</text><text x='496'>{owner}</text>");
-    let permissions = format_args!("<text x='592'>{machine}</text><text x='700'>{others}</text>");
     append_line(
         out,
         format_args!("{strip}{ends}{extent}{permissions}{sign}</g>\n"),

@@ -28,6 +28,7 @@ use crate::numbers::{is_bare, read_word_number};
 use crate::policy::words::{read_at_least, read_demand, read_kinds, read_modes};
 use crate::policy::{Demand, Kinds, Modes, PolicyRow};
 use crate::refusal::Refusal;
+use crate::words::is_word;
 use csv::ByteRecord;
 use pmp_core::ADDRESS_LIMIT;
 
@@ -131,7 +132,7 @@ pub fn is_labeled_header(fields: &ByteRecord) -> bool
     let Some(all) = nine_fields(fields) else {
         return false;
     };
-    all.name == b"name".as_slice() && all.words.are_names() && all.comment == b"comment".as_slice()
+    is_word(all.name, b"name") && all.words.are_names() && is_word(all.comment, b"comment")
 }
 
 /// Whether a text has a control byte, as no name and no comment does.
@@ -146,13 +147,13 @@ impl Words<'_> {
     fn are_names(self) -> bool
         ensures { result ≡ names_seven (seen_seven self.entry) }
     {
-        self.from == b"from".as_slice()
-            && self.to == b"to".as_slice()
-            && self.modes == b"modes".as_slice()
-            && self.kind == b"kind".as_slice()
-            && self.first == b"first".as_slice()
-            && self.last == b"last".as_slice()
-            && self.demand == b"demand".as_slice()
+        is_word(self.from, b"from")
+            && is_word(self.to, b"to")
+            && is_word(self.modes, b"modes")
+            && is_word(self.kind, b"kind")
+            && is_word(self.first, b"first")
+            && is_word(self.last, b"last")
+            && is_word(self.demand, b"demand")
     }
 
     /// From which moment to which they speak.
@@ -220,11 +221,15 @@ impl PolicyFields {
         ensures ordered { IfOk result (λ row. row.first ≤ row.last) }
     {
         if labeled {
-            let all = nine_fields(fields).ok_or(Refusal::BadRow.whole())?;
-            all.row(moments)
+            match nine_fields(fields) {
+                Some(all) => all.row(moments),
+                None => Err(Refusal::BadRow.whole()),
+            }
         } else {
-            let words = seven_fields(fields).ok_or(Refusal::BadRow.whole())?;
-            PolicyFields::of_words(words, moments)
+            match seven_fields(fields) {
+                Some(words) => PolicyFields::of_words(words, moments),
+                None => Err(Refusal::BadRow.whole()),
+            }
         }
     }
 

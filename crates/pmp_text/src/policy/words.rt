@@ -7,16 +7,17 @@ ghost use Rattle.pmp_text.specs.Numbers.{word_number};
 use crate::access_words::read_kind;
 use crate::numbers::read_word_number;
 use crate::policy::{Demand, Kinds, Modes};
+use crate::words::is_word;
 
 /// The demand that a word names: `never`, `always` or `held`.
 pub fn read_demand(word: &[u8]) -> Option<Demand>
     ensures { result ≡ demand_named word.now }
 {
-    if word == b"never".as_slice() {
+    if is_word(word, b"never") {
         Some(Demand::Never)
-    } else if word == b"always".as_slice() {
+    } else if is_word(word, b"always") {
         Some(Demand::Always)
-    } else if word == b"held".as_slice() {
+    } else if is_word(word, b"held") {
         Some(Demand::Held)
     } else {
         None
@@ -27,7 +28,7 @@ pub fn read_demand(word: &[u8]) -> Option<Demand>
 pub fn read_kinds(word: &[u8]) -> Option<Kinds>
     ensures { result ≡ kinds_named word.now }
 {
-    if word == b"any".as_slice() {
+    if is_word(word, b"any") {
         return Some(Kinds::Any);
     }
     read_kind(word).map(Kinds::One)

@@ -8,6 +8,7 @@ ghost use Rattle.pmp_text.specs.Statements.{byte_number, field_named, field_of, 
 use crate::flaw::Flaw;
 use crate::numbers::read_word_number;
 use crate::refusal::Refusal;
+use crate::words::is_word;
 use pmp_core::{HartFault, MAX_ADDRESS_BITS, MAX_ENTRIES, MAX_GRAIN, MIN_ADDRESS_BITS, Profile};
 
 /// The grains that there are, in bytes: that of G is at place G.
@@ -78,15 +79,15 @@ fn read_xlen(word: &[u8]) -> Result<HartField, Refusal>
 fn read_value(name: &[u8], value: &[u8]) -> Option<Result<HartField, Refusal>>
     ensures { result ≡ field_named name.now value.now }
 {
-    if name == b"entries".as_slice() {
+    if is_word(name, b"entries") {
         Some(read_byte(value, Refusal::BadEntries).map(HartField::Entries))
-    } else if name == b"grain".as_slice() {
+    } else if is_word(name, b"grain") {
         Some(read_grain(value).map(HartField::Grain))
-    } else if name == b"bits".as_slice() {
+    } else if is_word(name, b"bits") {
         Some(read_byte(value, Refusal::BadBits).map(HartField::Bits))
-    } else if name == b"smepmp".as_slice() {
+    } else if is_word(name, b"smepmp") {
         Some(read_smepmp(value))
-    } else if name == b"xlen".as_slice() {
+    } else if is_word(name, b"xlen") {
         Some(read_xlen(value))
     } else {
         None

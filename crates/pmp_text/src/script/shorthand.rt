@@ -15,6 +15,7 @@ use crate::script::start::kept_value;
 use crate::script::statement::read_assignment;
 use crate::script::version::Version;
 use crate::script::words::Words;
+use crate::words::is_word;
 use pmp_core::{ADDRESS_LIMIT, AddressMatching, Csr, Event, MAX_ENTRIES, RegFile};
 
 /// A line that stands for writes.
@@ -113,7 +114,7 @@ fn read_lock(mut operands: Words) -> Result<u8, Flaw>
     if operands.next().is_some() {
         return Err(Refusal::BadLine.part(7));
     }
-    if word == b"L".as_slice() {
+    if is_word(word, b"L") {
         Ok(128)
     } else {
         Err(Refusal::BadLine.part(6))
@@ -243,7 +244,7 @@ fn read_entry(mut operands: Words) -> Result<EntryLine, Flaw>
     let (Some(number), Some(matching)) = (operands.next(), operands.next()) else {
         return Err(Refusal::BadLine.whole());
     };
-    if matching == b"off".as_slice() {
+    if is_word(matching, b"off") {
         read_off(number, operands)
     } else {
         read_range(number, matching, operands)
@@ -257,13 +258,13 @@ pub fn read_shorthand(line: &[u8]) -> Option<Result<Shorthand, Flaw>>
 {
     let mut words = Words::new(line);
     let word = words.next()?;
-    if word == b"set-bits".as_slice() {
+    if is_word(word, b"set-bits") {
         let assigned = read_assignment(Version::Headed, words);
         Some(assigned.map(|(csr, value)| Shorthand::SetBits(csr, value)))
-    } else if word == b"clear-bits".as_slice() {
+    } else if is_word(word, b"clear-bits") {
         let assigned = read_assignment(Version::Headed, words);
         Some(assigned.map(|(csr, value)| Shorthand::ClearBits(csr, value)))
-    } else if word == b"entry".as_slice() {
+    } else if is_word(word, b"entry") {
         Some(read_entry(words).map(Shorthand::Entry))
     } else {
         None

@@ -14,6 +14,7 @@ use crate::refusal::Refusal;
 use crate::script::hart_field::{HartField, read_field};
 use crate::script::version::Version;
 use crate::script::words::Words;
+use crate::words::is_word;
 use pmp_core::{Csr, Event};
 
 /// A line after a script's first one.
@@ -101,7 +102,7 @@ fn read_name(mut operands: Words) -> Result<Option<Name>, Flaw>
     };
     match operands.next() {
         Some(_) => Err(Refusal::BadLine.part(2)),
-        None => Ok(Some(Name::read(word).ok_or(Refusal::BadMark.part(1))?)),
+        None => Name::read(word).map(Some).ok_or(Refusal::BadMark.part(1)),
     }
 }
 
@@ -119,18 +120,21 @@ fn read_publish(version: Version, operands: Words) -> Result<Statement, Flaw>
 fn read_head_statement(word: &[u8], operands: Words) -> Result<Statement, Flaw>
     ensures { result ≡ head_statement word.now (words operands.entry.rest.now) }
 {
-    if word == b"hart".as_slice() {
-        let (name, value) = read_two(operands)?;
-        Ok(Statement::Head(HeadStatement::Hart(read_field(name, value)?)))
-    } else if word == b"set".as_slice() {
-        let (csr, value) = read_assignment(Version::Headed, operands)?;
-        Ok(Statement::Head(HeadStatement::Set(csr, value)))
-    } else if word == b"expect".as_slice() {
-        let (csr, value) = read_assignment(Version::Headed, operands)?;
-        Ok(Statement::Expect(csr, value))
-    } else if word == b"mark".as_slice() {
-        let name = read_name(operands)?.ok_or(Refusal::BadLine.whole())?;
-        Ok(Statement::Mark(name))
+    if is_word(word, b"hart") {
+        read_two(operands)
+            .and_then(|(name, value)| read_field(name, value))
+            .map(|field| Statement::Head(HeadStatement::Hart(field)))
+    } else if is_word(word, b"set") {
+        read_assignment(Version::Headed, operands).map(|(csr, value)| Statement::Head(
+            HeadStatement::Set(csr, value),
+        ))
+    } else if is_word(word, b"expect") {
+        read_assignment(Version::Headed, operands).map(|(csr, value)| Statement::Expect(csr, value))
+    } else if is_word(word, b"mark") {
+        match read_name(operands)? {
+            Some(name) => Ok(Statement::Mark(name)),
+            None => Err(Refusal::BadLine.whole()),
+        }
     } else {
         Err(Refusal::BadLine.part(0))
     }
@@ -145,12 +149,13 @@ pub fn read_statement(version: Version, line: &[u8]) -> Result<Statement, Flaw>
     let Some(word) = words.next() else {
         return Err(Refusal::BadLine.whole());
     };
-    if word == b"write".as_slice() {
-        let (csr, value) = read_assignment(version, words)?;
-        Ok(Statement::Event(Event::Write(csr, value)))
-    } else if word == b"reset".as_slice() {
+    if is_word(word, b"write") {
+        read_assignment(version, words).map(|(csr, value)| Statement::Event(Event::Write(
+            csr, value,
+        )))
+    } else if is_word(word, b"reset") {
         without_operands(Statement::Event(Event::Reset), words)
-    } else if word == b"publish".as_slice() {
+    } else if is_word(word, b"publish") {
         read_publish(version, words)
     } else {
         match version {

@@ -8,6 +8,7 @@ ghost use Rattle.pmp_text.specs.Statements.{has_rv32};
 use crate::flaw::Flaw;
 use crate::refusal::Refusal;
 use crate::script::words::Words;
+use crate::words::is_word;
 use pmp_core::Size;
 
 /// A version of scripts.
@@ -52,7 +53,7 @@ pub fn read_version(line: &[u8]) -> Result<Version, Flaw>
 {
     let mut words = Words::new(line);
     let name = words.next();
-    if name.is_some_and(|name| name != b"pmp".as_slice()) {
+    if name.is_some_and(|name| !is_word(name, b"pmp")) {
         return Err(Refusal::BadVersion.part(0));
     }
     let Some(number) = words.next() else {

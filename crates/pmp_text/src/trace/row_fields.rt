@@ -14,6 +14,7 @@ use crate::moments::Moments;
 use crate::numbers::{is_bare, read_word_number};
 use crate::refusal::Refusal;
 use crate::trace::Row;
+use crate::words::is_word;
 use csv::ByteRecord;
 use pmp_core::{Access, AccessFault, Kind, Mode};
 
@@ -70,11 +71,11 @@ pub fn is_header(fields: &ByteRecord) -> bool
     let Some(words) = five_fields(fields) else {
         return false;
     };
-    words.after == b"after".as_slice()
-        && words.mode == b"mode".as_slice()
-        && words.kind == b"kind".as_slice()
-        && words.start == b"start".as_slice()
-        && words.length == b"length".as_slice()
+    is_word(words.after, b"after")
+        && is_word(words.mode, b"mode")
+        && is_word(words.kind, b"kind")
+        && is_word(words.start, b"start")
+        && is_word(words.length, b"length")
 }
 
 impl Words<'_> {
@@ -96,7 +97,9 @@ impl RowFields {
     pub fn read(fields: &ByteRecord, moments: &Moments<'_>) -> Result<RowFields, Flaw>
         ensures { result ≡ row_in moments.now (fields_of fields.now) }
     {
-        let words = five_fields(fields).ok_or(Refusal::BadRow.whole())?;
+        let Some(words) = five_fields(fields) else {
+            return Err(Refusal::BadRow.whole());
+        };
         match RowFields::of_words(words, moments) {
             Ok(row) => Ok(row),
             Err(_) if words.have_line_end() => Err(Refusal::BadRow.whole()),

@@ -1,12 +1,16 @@
-use Rattle.pmp_text.specs.Picture.{head}
+use Rattle.std.proofs.Common.{◌++◌, codes}
+use Rattle.pmp_text.specs.Picture.{head, large_title, settings, title}
 use Rattle.pmp_text.specs.PictureTexts.{legend, style}
+use Rattle.pmp_text.proofs.Picture.{between}
 use Rattle.pmp_text.proofs.lines.picture.write_head.Goals as goal
 
 pub returns-clause-ok : goal.returns-clause-ok
 unfolding head legend style
 returns-clause-ok g c =
-    rw (← c.read_switches-lockdown.ensures) (rw (
-      c.switch_word-lockdown.ensures,
-      c.switch_word-policy.ensures,
-      c.switch_word-bypass.ensures,
-    ) at c.append_text.ensures.ok)
+    let publications = c.args.publications in
+    let last = settings c.args.file.now.mseccfg ++ legend in
+    rw (
+      between (codes "<title>") (title publications) _ (style ++ (large_title publications ++ last)),
+      between (codes "<text class='large' x='16' y='36'>") (title publications) _ last,
+      ← c.of-settings.ensures,
+    ) c.append_text.ensures.ok
