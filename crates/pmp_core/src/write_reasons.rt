@@ -1,4 +1,4 @@
-//! Why a register doesn't read what was written to it.
+//! Why a register doesn't read back what was written to it.
 
 ghost use Rattle.std.specs.Prelude.{⊤, ◌≡◌, ℕ, ◌+◌, ◌*◌, ◌<◌, ◌≤◌, ◌==◌, nat_lt, false, not, ◌&&◌, Some, None, length};
 ghost use Rattle.std.specs.Prelude.{if◌then◌else◌};
@@ -24,12 +24,12 @@ use crate::registers::Registers;
 use crate::rights::is_barred;
 use std::ops::Range;
 
-/// Why a register doesn't read what was written to it. A write may have several reasons.
+/// Why a register doesn't read back what was written to it. A write may have several reasons.
 #[derive(Clone, Copy, Debug, PartialEq, Eq)]
 pub enum WriteReason {
-    /// The value isn't zero for an entry, or a register, that the hart doesn't have.
+    /// The value isn't zero for an entry, or a register, that the hart lacks.
     Absent,
-    /// The value has bits that the register doesn't have.
+    /// The value has bits that the register lacks.
     Bits,
     /// The value would change an entry that is frozen.
     Frozen,
@@ -37,14 +37,14 @@ pub enum WriteReason {
     Tor,
     /// The value has W without R for an entry, and MML is 0.
     Reserved,
-    /// The value would add a locked rule by which machine mode executes, MML is 1 and RLB is 0.
+    /// The value would add a locked rule by which M-mode executes, while MML is 1 and RLB is 0.
     Lockdown,
     /// The value would clear MML or MMWP.
     Sticky,
-    /// The value would set RLB, and some entry is locked.
+    /// The value would set RLB while some entry is locked.
     Bypass,
-    /// The grain is above four bytes, and the value chooses NA4, or has address bits below the grain that read
-    /// otherwise.
+    /// The grain is above four bytes, and the value selects NA4, or has address bits below the grain that read
+    /// differently.
     Grain,
 }
 
@@ -68,7 +68,7 @@ impl WriteReason {
 pub struct Reasons(u16);
 
 impl Reasons {
-    /// A bit for each reason, the lowest for the first of `WriteReason::ALL`.
+    /// Returns a bit for each reason, the lowest for the first of `WriteReason::ALL`.
     pub fn bits(self) -> u16
         ensures { result ≡ self.0 }
     {
@@ -76,7 +76,7 @@ impl Reasons {
     }
 }
 
-/// The byte for an entry in a value of a configuration register of the hart, where the register has one.
+/// Returns the byte for an entry in a value of a configuration register of the hart, if the register has one.
 fn byte_for(hart: Hart, register: u8, value: u64, index: usize) -> Option<u8>
     ensures { result ≡ (if holds_byte_of hart register index then Some (byte_for register value index) else None) }
 {
@@ -88,7 +88,7 @@ fn byte_for(hart: Hart, register: u8, value: u64, index: usize) -> Option<u8>
     }
 }
 
-/// The entries of the hart of which the register holds the configuration or the address.
+/// Returns the entries of the hart whose configuration or address the register holds.
 fn entries_of(hart: Hart, csr: Csr) -> Range<usize>
     ensures within { result.end ≤ hart.entries }
     ensures others { (i : ℕ) → i < hart.entries → (result.start ≤ i → result.end ≤ i) → holds hart csr i ≡ false }
@@ -107,7 +107,7 @@ fn entries_of(hart: Hart, csr: Csr) -> Range<usize>
     }
 }
 
-/// How many bytes of the configuration register are those of entries of the hart. They are its lowest ones.
+/// Returns how many bytes of the configuration register belong to entries of the hart. They are its lowest ones.
 fn bytes_there(hart: Hart, register: u8) -> usize
     ensures there { (j : ℕ) → j < ENTRIES_PER_CFG → (holds_byte_of hart register (4 * register + j)
         && nat_lt (4 * register + j) hart.entries) ≡ nat_lt j result }
@@ -126,7 +126,7 @@ fn has_some(bytes: &[u8]) -> bool
     bytes.iter().any(|byte| *byte != 0)
 }
 
-/// Whether the value has a byte other than zero that isn't for an entry of the hart.
+/// Whether the value has a nonzero byte that isn't for an entry of the hart.
 fn has_absent_byte(hart: Hart, register: u8, value: u64) -> bool
     ensures { result ≡ has_absent_byte hart hart.entries register value }
 {
@@ -134,7 +134,7 @@ fn has_absent_byte(hart: Hart, register: u8, value: u64) -> bool
     has_some(&bytes[bytes_there(hart, register)..])
 }
 
-/// Whether one of the bytes has bit 6 or 5, which no configuration has.
+/// Whether one of the bytes has bit 6 or 5 set, which no configuration has.
 fn has_bit_6_or_5(bytes: &[u8]) -> bool
     ensures { result ≡ list_any has_bit_6_or_5 bytes.now }
 {
@@ -142,7 +142,7 @@ fn has_bit_6_or_5(bytes: &[u8]) -> bool
 }
 
 impl<'a> Registers<'a> {
-    /// Whether the register has the entry's byte or address, and reads another than the value has.
+    /// Whether the register has the entry's byte or address, and reads differently from the value.
     fn is_changed(&self, csr: Csr, value: u64, index: usize) -> bool
         requires { index < length self.now.entries }
         ensures { result ≡ is_changed self.now csr value index }
@@ -176,7 +176,7 @@ impl<'a> Registers<'a> {
         fields.mml && !fields.rlb && is_barred(&Configuration::from_byte(byte))
     }
 
-    /// Whether a byte chooses NA4, which a coarse grain doesn't have.
+    /// Whether a byte selects NA4, which a coarse grain lacks.
     fn adds_na4(&self, byte: u8) -> bool
         ensures { result ≡ (nat_lt 0 self.now.profile.grain && is_na4 (configuration_of byte).matching) }
     {
@@ -230,7 +230,7 @@ impl<'a> Registers<'a> {
         entries_of(self.hart(), csr).any(|index| self.is_entry_reason(reason, csr, value, index))
     }
 
-    /// Whether some reason holds for the entry.
+    /// Whether any reason holds for the entry.
     pub fn has_reason(&self, csr: Csr, value: u64, index: usize) -> bool
         requires { index < length self.now.entries }
         ensures { result ≡ has_reason self.now csr value index }
@@ -247,7 +247,7 @@ impl<'a> Registers<'a> {
         profile.has_smepmp && profile.is_rv32
     }
 
-    /// Whether the value isn't zero for a register, or an entry, that the hart doesn't have.
+    /// Whether the value isn't zero for a register, or an entry, that the hart lacks.
     fn is_absent(&self, csr: Csr, value: u64) -> bool
         ensures { result ≡ is_absent self.now csr value }
     {
@@ -260,7 +260,7 @@ impl<'a> Registers<'a> {
         }
     }
 
-    /// Whether the value has bits that the register doesn't have, if the hart has the register.
+    /// Whether the value has bits that the register lacks, if the hart has the register.
     fn has_other_bits(&self, csr: Csr, value: u64) -> bool
         ensures { result ≡ has_other_bits self.now.profile csr value }
     {
@@ -281,7 +281,7 @@ impl<'a> Registers<'a> {
         fields.mml && !new.mml || fields.mmwp && !new.mmwp
     }
 
-    /// Whether the value would set RLB, and some entry is locked.
+    /// Whether the value would set RLB while some entry is locked.
     fn sets_bypass(&self, value: u64) -> bool
         ensures { result ≡ sets_bypass self.now Csr.Mseccfg value }
     {
@@ -289,7 +289,7 @@ impl<'a> Registers<'a> {
         self.hart().has_smepmp() && sets && self.is_any_locked()
     }
 
-    /// Whether this is a reason why the register wouldn't read the value, if it were written now.
+    /// Whether this is a reason why the register wouldn't read the value back, if it were written now.
     pub fn is_reason(&self, reason: WriteReason, csr: Csr, value: u64) -> bool
         ensures { result ≡ is_reason reason self.now csr value }
     {
@@ -303,7 +303,7 @@ impl<'a> Registers<'a> {
         }
     }
 
-    /// Why the register wouldn't read the value, if it were written now.
+    /// Returns why the register wouldn't read the value back, if it were written now.
     #[cold]
     #[inline(never)]
     pub fn reasons(&self, csr: Csr, value: u64) -> Reasons
@@ -318,7 +318,7 @@ impl<'a> Registers<'a> {
         Reasons(bits)
     }
 
-    /// The same where the register reads this once the value is written, which it mostly does as it was written.
+    /// Does the same, given what the register reads after the write, which is mostly the value as written.
     #[inline(always)]
     pub(crate) fn reasons_where(&self, csr: Csr, value: u64, reads: u64) -> Reasons
         requires { reads ≡ register_value (written self.now csr value) csr }
