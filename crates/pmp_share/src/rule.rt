@@ -5,7 +5,7 @@ use crate::version::Version;
 use atomic_table::{Join, Split};
 use crossbeam_utils::rule::{Outcome, Protocol};
 
-/// Whatever is known is a beginning of the published batches.
+/// What is known is always a prefix of the published batches.
 pub struct OneHistory;
 
 impl Protocol<Version, Knowledge> for OneHistory {
@@ -17,7 +17,7 @@ impl Protocol<Version, Knowledge> for OneHistory {
     ghost first = { None };
 }
 
-/// A checker's entrance.
+/// The entrance of a checker.
 pub struct Looks;
 
 impl Outcome<Version, Knowledge> for Looks {
@@ -26,7 +26,7 @@ impl Outcome<Version, Knowledge> for Looks {
     ghost then = { Enters };
 }
 
-/// The publisher's step.
+/// The step of the publisher.
 pub struct Shows;
 
 impl Outcome<Version, Knowledge> for Shows {
