@@ -1,4 +1,4 @@
-//! The significant lines of a text, one after the other.
+//! The significant lines of a text, one after another.
 
 ghost use Rattle.std.specs.Prelude.{◌≡◌, ◌+◌, ◌<◌, ◌^◌, length};
 ghost use Rattle.std.specs.Iterator.{YieldsFirstBy, item_count};
@@ -15,7 +15,7 @@ pub struct NumberedLine<'a> {
     pub bytes: &'a [u8],
 }
 
-/// Whether a line has a word, and the first one doesn't begin a comment.
+/// Whether a line has a word, and its first word doesn't begin a comment.
 fn is_significant(line: &[u8]) -> bool
     ensures { result ≡ counts (words line.now) }
 {
@@ -25,11 +25,11 @@ fn is_significant(line: &[u8]) -> bool
     }
 }
 
-/// The significant lines that are left of a text.
+/// The remaining significant lines of a text.
 #[derive(Drop)]
 pub struct SignificantLines<'a> {
     rest: &'a [u8],
-    /// The number of the first line that is left.
+    /// The number of the first remaining line.
     number: u64,
     ghost countable: { number + length rest.now < 2 ^ 64 },
 }
