@@ -1,4 +1,4 @@
-//! The script of one hart of a log, in a folder with those of the others.
+//! The script of one hart of a log, in a folder with the scripts of the others.
 
 ghost use Rattle.std.specs.Prelude.{◌≡◌, IfOk, string_bytes};
 ghost use Rattle.pmp_tool.specs.HartScripts.{path_in};
@@ -12,7 +12,7 @@ pub struct HartScript {
     pub text: Vec<u8>,
 }
 
-/// The path of a hart's script in a folder.
+/// Returns the path of a hart's script in a folder.
 pub fn path_in(alloc: Global, folder: &str, hart: u64) -> Result<String, AllocError>
     ensures { IfOk result (λ path. string_bytes path ≡ path_in folder.now hart) }
 {

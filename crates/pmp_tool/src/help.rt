@@ -1,4 +1,4 @@
-//! What the program's help says. `topics.rt` has what stands behind the arguments of a command.
+//! The texts of the program's help. Those after the arguments of a command are in `topics.rt`.
 
 pub use crate::topics::MORE;
 
