@@ -1,11 +1,11 @@
-//! Values that neither a text nor a number at the C boundary makes.
+//! Values that neither a text nor a number at the C boundary produces.
 
 ghost use Rattle.std.specs.Prelude.{◌≡◌, ◌↔◌, IsTrue};
 
 use pmp_core::*;
 use pmp_map::Run;
 
-/// `==` tells values of these types apart, and says that equal ones are the same.
+/// `==` distinguishes values of these types, and says that equal ones are equal.
 fn are_same_accesses(one: &Access, other: &Access) -> bool
     ensures { IsTrue result ↔ one.now ≡ other.now }
 {
@@ -30,7 +30,7 @@ fn are_same_runs(one: &Run, other: &Run) -> bool
     one == other
 }
 
-/// What vectors of fixed capacity fill their places with.
+/// The defaults with which vectors of fixed capacity are filled.
 #[test]
 fn defaults_refuse(rt: HostRuntime) {
     let refused = Decision {
@@ -47,7 +47,7 @@ fn defaults_refuse(rt: HostRuntime) {
     assert!(rt; are_same_runs(&Run::default(), &none));
 }
 
-/// An access by another mode, of another kind, from another byte or of another length is another one.
+/// An access in another mode, of another kind, from another byte or of another length is a different one.
 #[test]
 fn accesses_differ(rt: HostRuntime) {
     let load = Access::new(Mode::U, Kind::Load, 8, 4).expect(&rt, "a lawful access");
@@ -63,7 +63,7 @@ fn accesses_differ(rt: HostRuntime) {
     assert!(rt; are_same_accesses(&load, &load));
 }
 
-/// Registers that no number of a CSR names take no write, and read zero.
+/// Registers that no CSR number names ignore writes, and read zero.
 #[test]
 fn other_registers_change_nothing(rt: HostRuntime) {
     for size in [Size::Sixteen, Size::SixtyFour] {
