@@ -24,10 +24,10 @@ pub enum AuditFault {
     /// The script's own fault, except `Memory`.
     #[error("the script has a fault")]
     Script(ScriptFault),
-    /// The trace's own fault, or a failure of its input; not `Memory`.
+    /// The trace's own fault, or that its input failed; not `Memory`.
     #[error("the trace has a fault")]
     Trace(TraceFault),
-    /// The policy's own fault, or a failure of its input; not `Memory`.
+    /// The policy's own fault, or that its input failed; not `Memory`.
     #[error("the policy has a fault")]
     Policy(TraceFault),
     /// The shared unit's refusal, except `Memory`.

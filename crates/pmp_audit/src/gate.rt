@@ -13,7 +13,7 @@ pub trait Gate {
     }
 }
 
-/// A gate that lets every worker pass at once.
+/// A gate that lets everyone pass at once.
 #[derive(Clone, Copy, Debug, Default)]
 pub struct OpenGate;
 

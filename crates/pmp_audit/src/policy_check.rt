@@ -28,7 +28,7 @@ use std::alloc::{AllocError, Global};
 use std::io::Write;
 pub use steps::Pace;
 
-/// The number of a policy's rows, and how many are broken, or unmet without permission.
+/// How many rows a policy has, and how many of them are broken, or unmet though they don't allow it.
 #[derive(Clone, Copy, Debug, Default, PartialEq, Eq)]
 pub struct PolicySummary {
     pub rows: u64,

@@ -80,7 +80,7 @@ impl<'a> Replay<'a> {
         &self.file
     }
 
-    /// Decides an access in that file. The first decision builds its map.
+    /// Decides an access in that file. Its map is built for the first.
     pub fn decide(&mut self, access: &Access) -> Decision
         ensures by_bytes { IsDecision (file_at self.old) access.now result }
         ensures position { self.new ≡ self.old }

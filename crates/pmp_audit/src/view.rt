@@ -34,7 +34,7 @@ pub enum View {
     Entries,
 }
 
-/// Writes the registers, one line each.
+/// Writes the registers, a line for each.
 pub fn dump<W: Write>(
     alloc: Global,
     script: &[u8],
@@ -50,7 +50,7 @@ pub fn dump<W: Write>(
     show(alloc, View::Registers, script, after, writer)
 }
 
-/// Writes the runs, one line each: which bytes each entry owns, and what it lets each mode do there.
+/// Writes the runs, a line for each: which bytes each entry owns, and what it lets each mode do there.
 pub fn map_of<W: Write>(
     alloc: Global,
     script: &[u8],

@@ -13,7 +13,7 @@ use std::marker::Model;
 pub enum AddressMatching {
     /// The entry matches nothing.
     Off,
-    /// Top of range: from the preceding address register up to its own.
+    /// Top of range: from the address register before it up to its own.
     Tor,
     /// Naturally aligned four bytes.
     Na4,

@@ -1,4 +1,4 @@
-//! The hart of a unit: its XLEN, number of entries, grain and address bits, and whether it has Smepmp.
+//! The hart of a unit: its XLEN, the number of its entries, its grain, its address bits, and whether it has Smepmp.
 
 ghost use Rattle.std.specs.Prelude.{◌≡◌, ◌<◌, ◌≤◌, IfOk, IfErr, MatchOption, None, Some, false, true};
 ghost use Rattle.pmp_core.specs.declared.hart.TheConstants.{MAX_GRAIN};
@@ -34,7 +34,7 @@ pub struct Profile {
     pub address_bits: u8,
     /// Whether it has Smepmp, and with it `mseccfg`.
     pub has_smepmp: bool,
-    /// Whether XLEN is 32 rather than 64.
+    /// Whether XLEN is 32, and not 64.
     pub is_rv32: bool,
 }
 
@@ -51,7 +51,7 @@ pub enum HartFault {
     Entries,
     /// The grain has more than 4096 bytes.
     Grain,
-    /// A physical address has fewer than 34 bits, or more than 56; on RV32 fewer than 32, or more than 34.
+    /// An address has fewer than 34 bits, or more than 56; on RV32 fewer than 32, or more than 34.
     AddressBits,
 }
 

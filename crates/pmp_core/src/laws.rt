@@ -48,7 +48,7 @@ pub fn law_owner_decides_byte()
         access.length ≡ 1 → IsOwner file access.start owner → IsDecider file access owner }
 {}
 
-/// Only an entry of the register file matches a byte.
+/// Only an entry of the file matches a byte.
 pub fn law_matching_entry()
     ensures { (file : RegisterFile) (i byte : ℕ) → Matches file i byte → i < length file.entries }
 {}
@@ -84,7 +84,7 @@ pub fn law_store_load()
     ensures { StoreLaw }
 {}
 
-/// The grain law: in a legal register file all bytes of one block of the grain are matched by the same entries.
+/// The grain law: in a legal register file the bytes of one block of the grain are matched by the same entries.
 #[tactic(auto, using(crate::proofs::Blocks::grain_law))]
 pub fn law_grain()
     ensures { GrainLaw }
@@ -152,7 +152,7 @@ pub fn law_frozen_address()
     ensures { FrozenAddressLaw }
 {}
 
-/// Each part of an allowed access, in its mode and of its kind, is allowed too, by the same cause.
+/// Each part of an access that is allowed, in its mode and of its kind, is allowed too, by the same cause.
 pub fn law_parts()
     ensures { PartsLaw }
 {}

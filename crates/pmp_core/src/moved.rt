@@ -1,4 +1,4 @@
-//! The bytes whose decisions a change of the registers may have moved.
+//! The bytes that a change of the registers may have moved.
 
 ghost use Rattle.std.specs.Prelude.{◌≡◌, ◌<◌, ◌+◌, ◌^◌, ℕ, IsTrue, None, false, length};
 ghost use Rattle.pmp_core.specs.declared.csr.Csr.{Csr};

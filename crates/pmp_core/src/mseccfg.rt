@@ -5,7 +5,7 @@ ghost use Rattle.pmp_core.specs.Mseccfg.{mseccfg_value, mseccfg_fields};
 
 use bitflags::{Flag, Flags, bitflag_items};
 
-/// A set of the `mseccfg` bits that the unit has.
+/// A set of the bits of `mseccfg` that the unit has.
 #[derive(Clone, Copy, Debug, PartialEq, Eq)]
 pub struct Mseccfg(u64);
 

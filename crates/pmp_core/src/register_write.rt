@@ -33,7 +33,7 @@ pub struct Written {
     pub reasons: Reasons,
 }
 
-/// Returns what is stored if this is written over a configuration that isn't frozen, on a hart that has every mode.
+/// Returns what is stored over a configuration that isn't frozen, on a hart that has every address-matching mode.
 fn admitted(old: Configuration, new: Configuration, mseccfg: &MseccfgFields) -> Configuration
     ensures { result ≡ admitted mseccfg.now.mml mseccfg.now.rlb old new }
 {

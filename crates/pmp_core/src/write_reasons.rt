@@ -1,4 +1,4 @@
-//! Why a register doesn't read back what was written to it.
+//! Why a register doesn't read what was written to it.
 
 ghost use Rattle.std.specs.Prelude.{⊤, ◌≡◌, ℕ, ◌+◌, ◌*◌, ◌<◌, ◌≤◌, ◌==◌, nat_lt, false, not, ◌&&◌, Some, None, length};
 ghost use Rattle.std.specs.Prelude.{if◌then◌else◌};
@@ -24,12 +24,12 @@ use crate::registers::Registers;
 use crate::rights::is_barred;
 use std::ops::Range;
 
-/// Why a register doesn't read back what was written to it. A write may have several reasons.
+/// Why a register doesn't read what was written to it. A write may have several reasons.
 #[derive(Clone, Copy, Debug, PartialEq, Eq)]
 pub enum WriteReason {
-    /// The value isn't zero for an entry, or a register, that the hart lacks.
+    /// The value isn't zero for an entry, or a register, that the hart doesn't have.
     Absent,
-    /// The value has bits that the register lacks.
+    /// The value has bits that the register doesn't have.
     Bits,
     /// The value would change an entry that is frozen.
     Frozen,
@@ -41,7 +41,7 @@ pub enum WriteReason {
     Lockdown,
     /// The value would clear MML or MMWP.
     Sticky,
-    /// The value would set RLB while some entry is locked.
+    /// The value would set RLB, and some entry is locked.
     Bypass,
     /// The grain is above four bytes, and the value selects NA4, or has address bits below the grain that read
     /// differently.
@@ -126,7 +126,7 @@ fn has_some(bytes: &[u8]) -> bool
     bytes.iter().any(|byte| *byte != 0)
 }
 
-/// Whether the value has a nonzero byte that isn't for an entry of the hart.
+/// Whether the value has a byte other than zero that isn't for an entry of the hart.
 fn has_absent_byte(hart: Hart, register: u8, value: u64) -> bool
     ensures { result ≡ has_absent_byte hart hart.entries register value }
 {
@@ -230,7 +230,7 @@ impl<'a> Registers<'a> {
         entries_of(self.hart(), csr).any(|index| self.is_entry_reason(reason, csr, value, index))
     }
 
-    /// Whether any reason holds for the entry.
+    /// Whether some reason holds for the entry.
     pub fn has_reason(&self, csr: Csr, value: u64, index: usize) -> bool
         requires { index < length self.now.entries }
         ensures { result ≡ has_reason self.now csr value index }
@@ -247,7 +247,7 @@ impl<'a> Registers<'a> {
         profile.has_smepmp && profile.is_rv32
     }
 
-    /// Whether the value isn't zero for a register, or an entry, that the hart lacks.
+    /// Whether the value isn't zero for a register, or an entry, that the hart doesn't have.
     fn is_absent(&self, csr: Csr, value: u64) -> bool
         ensures { result ≡ is_absent self.now csr value }
     {
@@ -260,7 +260,7 @@ impl<'a> Registers<'a> {
         }
     }
 
-    /// Whether the value has bits that the register lacks, if the hart has the register.
+    /// Whether the value has bits that the register doesn't have, if the hart has the register.
     fn has_other_bits(&self, csr: Csr, value: u64) -> bool
         ensures { result ≡ has_other_bits self.now.profile csr value }
     {
@@ -281,7 +281,7 @@ impl<'a> Registers<'a> {
         fields.mml && !new.mml || fields.mmwp && !new.mmwp
     }
 
-    /// Whether the value would set RLB while some entry is locked.
+    /// Whether the value would set RLB, and some entry is locked.
     fn sets_bypass(&self, value: u64) -> bool
         ensures { result ≡ sets_bypass self.now Csr.Mseccfg value }
     {
@@ -289,7 +289,7 @@ impl<'a> Registers<'a> {
         self.hart().has_smepmp() && sets && self.is_any_locked()
     }
 
-    /// Whether this is a reason why the register wouldn't read the value back, if it were written now.
+    /// Whether this is a reason why the register wouldn't read the value, if it were written now.
     pub fn is_reason(&self, reason: WriteReason, csr: Csr, value: u64) -> bool
         ensures { result ≡ is_reason reason self.now csr value }
     {
@@ -303,7 +303,7 @@ impl<'a> Registers<'a> {
         }
     }
 
-    /// Returns why the register wouldn't read the value back, if it were written now.
+    /// Returns why the register wouldn't read the value, if it were written now.
     #[cold]
     #[inline(never)]
     pub fn reasons(&self, csr: Csr, value: u64) -> Reasons

@@ -69,7 +69,7 @@ impl Walk {
         shown: 0,
     };
 
-    /// Whether a publication has writes and hasn't ended.
+    /// Whether a publication has writes and isn't ended.
     pub fn is_open(self) -> bool
         ensures { result ≡ is_open self }
     {

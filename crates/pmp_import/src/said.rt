@@ -45,12 +45,12 @@ pub struct Told {
     pub how: How,
     pub register: Csr,
     pub value: u64,
-    /// Whether only an RV32 hart can produce such a line.
+    /// Whether only an RV32 hart has such a line.
     pub is_rv32: bool,
 }
 
 impl Told {
-    /// Whether a debugger shows the register as after a reset.
+    /// Whether a debugger shows the register as a reset leaves it.
     pub fn is_unset(self) -> bool
         ensures { result ≡ is_unset self }
     {

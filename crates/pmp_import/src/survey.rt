@@ -51,7 +51,7 @@ fn is_high(how: How, register: Csr) -> bool
     }
 }
 
-/// Whether only a hart with more than 16 entries has this.
+/// Whether only a hart of more than 16 entries has this.
 fn needs_many(told: &Told) -> bool
     ensures { result ≡ needs_many told.now }
 {
@@ -121,7 +121,7 @@ impl Survey {
         self.has_many = self.has_many || needs_many(told);
     }
 
-    /// Counts a write, or a register shown.
+    /// Counts a write, or a register that is shown.
     fn find(&mut self, hart: u64)
         ensures { self.new ≡ behind_found self.old hart }
     {

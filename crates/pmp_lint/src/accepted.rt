@@ -1,4 +1,4 @@
-//! Accepted findings.
+//! Findings that are accepted.
 
 ghost use Rattle.std.specs.Prelude.{◌≡◌, position};
 ghost use Rattle.pmp_lint.specs.Findings.{accepted_at, accepted_everywhere, accepted_said, accepts, is_accepted};

@@ -94,7 +94,7 @@ impl fmt::Display for RuleBits {
     }
 }
 
-/// The fields of the deciding entry, and LF.
+/// The fields of the entry that decides, and LF.
 #[derive(Clone, Copy)]
 struct Fields(Option<Decider>);
 

@@ -1,4 +1,4 @@
-//! The deciding entry of an access, decoded.
+//! The entry that decides an access, decoded.
 
 ghost use Rattle.std.specs.Prelude.{◌≡◌, ◌<◌, ◌≤◌, length};
 ghost use Rattle.pmp_core.specs.declared.size.TheConstants.{MAX_ENTRIES};

@@ -16,8 +16,8 @@ pub enum Lint {
     NeverDecides,
     /// Bytes that a mode may both write and execute in the end.
     WriteAndExecute,
-    /// After a single write S and U may use bytes in a way in which they may not use them before its publication, nor
-    /// after it.
+    /// Bytes that S and U may use, after a single write, in a way in which they may use them neither before its
+    /// publication nor after it.
     OpenBetween,
     /// A write that an entry rejects because it is frozen.
     LateWrite,

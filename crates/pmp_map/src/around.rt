@@ -1,4 +1,4 @@
-//! The run that contains a byte, without a map.
+//! The run of a byte, without a map.
 
 ghost use Rattle.std.specs.Prelude.{◌≡◌, ◌≢◌, ℕ, max, ◌+◌, ◌-◌, ◌<◌, ◌≤◌, IfSome, Option, length};
 ghost use Rattle.pmp_core.specs.declared.access.TheConstants.{ADDRESS_LIMIT};

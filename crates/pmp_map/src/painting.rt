@@ -28,7 +28,7 @@ impl Canvas {
         above: Cuts::EMPTY,
     };
 
-    /// Moves the gap to the byte, with the cuts that begin below it below, and all others above.
+    /// Moves the gap to the byte: the cuts that begin below it are below, and all others above.
     fn part_at(&mut self, byte: u64)
         requires inside { byte ≤ ADDRESS_LIMIT }
         requires room { length self.old.below + length self.old.above ≤ RUNS }

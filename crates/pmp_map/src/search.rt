@@ -10,7 +10,7 @@ pub const PLACES: usize = 6 * 6 * 6 + 1;
 /// Tables with at most this many runs are searched by two counts instead of three.
 pub const SHORT: usize = 36;
 
-/// Tables with at most this many runs are searched by one count.
+/// Tables with no more runs than this are searched by one count.
 pub const FEW: usize = 6;
 
 /// Returns the place of the byte among six, `stride` apart from `low` on: counts the starts at or below the byte.

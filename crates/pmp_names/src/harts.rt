@@ -64,7 +64,7 @@ fn push(harts: &mut Vec<HartName>, hart: HartName) -> Result<(), AllocError>
     Ok(harts.push(hart)?)
 }
 
-/// Whether both are the same harts.
+/// Whether these are the same harts.
 pub fn are_same(first: &[HartName], second: &[HartName]) -> bool
     ensures { Decides result (names_of first.now ≡ names_of second.now) }
 {

@@ -6,7 +6,7 @@ use std::alloc::{AllocError, Global};
 /// The number of states kept: with this many, a search was as good as an exhaustive one wherever that could be tried.
 const WIDTH: usize = 64;
 
-/// The best of the states offered.
+/// The best of the states that were offered.
 #[derive(Drop)]
 pub struct Level {
     pub states: Vec<State>,

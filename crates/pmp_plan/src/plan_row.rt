@@ -14,7 +14,7 @@ use pmp_text::{Flaw, Refusal, read_rights, read_word_number};
 pub struct Demand {
     /// Exactly what M-mode may do with it, and what S-mode and U-mode may do.
     pub rights: ModeRights,
-    /// Whether it is held: its owner and all entries before it are frozen.
+    /// Whether it is held: its owner and all entries before that are frozen.
     pub is_locked: bool,
 }
 

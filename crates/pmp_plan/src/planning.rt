@@ -1,4 +1,4 @@
-//! The registers for a plan.
+//! The registers of a plan.
 
 ghost use Rattle.std.specs.Prelude.{◌≡◌, ◌<◌, ◌≤◌, [], ℕ, IfErr, IfOk, IfSome, IsTrue, false, length};
 ghost use Rattle.pmp_core.specs.Histories.{replay};

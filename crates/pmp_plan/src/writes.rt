@@ -11,7 +11,7 @@ pub const WRITES: usize = 128;
 /// The number of configuration register numbers.
 const CONFIGURATIONS: u8 = 16;
 
-/// Writes in order.
+/// Writes in their order.
 #[derive(Drop)]
 struct Writes {
     list: ArrayVec<Event, WRITES>,

@@ -8,7 +8,7 @@ use std::alloc::{AllocError, AllocFailed};
 pub enum ShareFault {
     /// The unit's `PLACES` for checkers and notices are all taken, or the shared structure refuses one.
     NoPlace,
-    /// The batch would exceed a limit of the unit, in events or in batches.
+    /// The batch would go past a limit of the unit, in events or in batches.
     Full,
     /// More memory was refused.
     Memory,

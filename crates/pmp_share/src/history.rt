@@ -28,7 +28,7 @@ impl Rule<LinkedList<Event>, u64> for Law {
     ghost moves = { λ ask before after answer. Unit {0} };
 }
 
-/// Callers exchange nothing.
+/// Callers trade nothing.
 pub struct Nothing;
 
 impl Gain<LinkedList<Event>, u64> for Nothing {

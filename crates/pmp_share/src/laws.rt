@@ -29,7 +29,7 @@ pub fn law_later_look()
     law_frozen();
 }
 
-/// A unit has a place for each of its checkers and another for a notice to each, as many as an audit by all of them
+/// A unit has a place for each of its checkers and one more for a notice to each, as many as an audit by all of them
 /// takes.
 pub fn law_places()
     ensures { PlacesLaw }

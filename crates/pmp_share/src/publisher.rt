@@ -77,7 +77,7 @@ impl Publisher {
         Ok(Checker::new(self.state.reader_state()?))
     }
 
-    /// Adds a copy of the batch to the pending list. An empty batch counts as a batch.
+    /// Adds a copy of the batch to the pending list. An empty batch is a batch.
     pub fn submit(&mut self, batch: &Batch) -> Result<(), ShareFault>
         ensures appends { OnOk result (self.new ≡ record self.old { pending = self.old.pending ++ batch.now ∷ [] }) }
         ensures refused { OnErr result (self.new ≡ self.old) }

@@ -17,7 +17,7 @@ impl Protocol<Version, Knowledge> for OneHistory {
     ghost first = { None };
 }
 
-/// The entrance of a checker.
+/// A checker's entrance.
 pub struct Looks;
 
 impl Outcome<Version, Knowledge> for Looks {
@@ -26,7 +26,7 @@ impl Outcome<Version, Knowledge> for Looks {
     ghost then = { Enters };
 }
 
-/// The step of the publisher.
+/// The publisher's step.
 pub struct Shows;
 
 impl Outcome<Version, Knowledge> for Shows {

@@ -1,4 +1,4 @@
-//! The two copies of a version, as the publisher holds them.
+//! The two copies of a version, as the publisher has them.
 
 ghost use Rattle.std.specs.Prelude.{◌≡◌, true, false, [], ◌∷◌, ◌++◌, IfOk, IfErr, OnOk, OnErr};
 ghost use Rattle.pmp_share.specs.declared.fault.ShareFault.TheVariants.{Full, Memory};
@@ -101,7 +101,7 @@ impl WriterState {
         self.writer.published().file()
     }
 
-    /// Adds a batch to the history, if it isn't there yet.
+    /// Notes a batch in the history, if it isn't noted yet.
     fn note(&mut self, batch: &Vec<Event>) -> Result<(), ShareFault>
         requires ahead { self.old.ahead ≡ true → self.old.noted ≡ self.old.handed ++ batch.now.items ∷ [] }
         ensures noted { OnOk result (self.new

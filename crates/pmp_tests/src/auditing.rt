@@ -27,7 +27,7 @@ struct Meeting {
     calls: AtomicU64,
     /// A bit for each row.
     rows: AtomicU64,
-    /// The last row that each worker passed.
+    /// Of each worker, the last row that it passed.
     last: [AtomicU64; 8],
     is_wrong: AtomicBool,
     missed: AtomicBool,

@@ -1,4 +1,4 @@
-//! A long audit of a trace cut at every possible limit.
+//! A long audit of a trace that is cut at every limit.
 
 use pmp_audit::{AuditFault, Summary, audit, audit_long};
 use pmp_text::{Refusal, TraceFault};

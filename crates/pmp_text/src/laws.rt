@@ -16,7 +16,7 @@ pub fn law_least_fault()
     ensures answered { LeastFaultLaw }
 {}
 
-/// A script has no more events, and no more publications, than the limit.
+/// A script has no more events, and no more publications, than their limit.
 pub fn law_script_size()
     ensures { ScriptSizeLaw }
 {}
@@ -67,12 +67,12 @@ pub fn law_version_two()
     law_sizes();
 }
 
-/// A script of version 1 or 2 begins with the reset of a unit of its size, and expects nothing.
+/// A script of version 1 or 2 begins with the reset of the unit of its size, and expects nothing.
 pub fn law_no_head()
     ensures { NoHeadLaw }
 {}
 
-/// The unit of a script begins with a register file that its hart can have.
+/// A script's unit begins with a register file that its hart can have.
 pub fn law_legal_start()
     ensures { LegalStartLaw }
 {}

@@ -15,7 +15,7 @@ pub struct Name {
     bytes: [u8; NAME_BYTES],
 }
 
-/// A moment that a script gives a name.
+/// A moment that a script names.
 #[derive(Clone, Copy, Debug, PartialEq, Eq)]
 pub struct Mark {
     pub name: Name,

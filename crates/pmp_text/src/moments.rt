@@ -133,7 +133,7 @@ impl Moment {
         }
     }
 
-    /// Whether its word allows the row to be unmet.
+    /// Whether its word lets the row be unmet.
     fn waives(self) -> bool
         ensures { result ≡ waives self }
     {
@@ -143,7 +143,7 @@ impl Moment {
         }
     }
 
-    /// Whether both are numbers, and the other is less than this one.
+    /// Whether both are numbers, and the other is below this one.
     fn is_above(self, other: Moment) -> bool
         ensures { result ≡ is_backward self other }
     {

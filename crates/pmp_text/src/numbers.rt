@@ -1,4 +1,4 @@
-//! Numbers, as written in scripts, traces and command lines.
+//! Numbers as scripts, traces and command lines write them.
 
 ghost use Rattle.std.specs.Prelude.{◌≡◌, ◌+◌, ◌*◌, ◌^◌, ◌<◌, ◌≤◌, MatchOption};
 ghost use Rattle.pmp_text.specs.Numbers.{is_bare, numeral, word_number};

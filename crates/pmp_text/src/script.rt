@@ -1,4 +1,4 @@
-//! Scripts: the publications that a text describes, or why it describes none.
+//! Scripts: the publications that a text describes, and why a text describes none.
 
 ghost use Rattle.std.specs.Prelude.{◌≡◌, suc, ◌+◌, ◌<◌, ◌≤◌, [], length, take};
 ghost use Rattle.std.specs.Prelude.{None, Some, if◌then◌else◌, slice_index_or};

@@ -1,4 +1,4 @@
-//! Traces: the accesses that a text lists, or why a text, of these or of a policy, lists none.
+//! Traces: the accesses that a text lists, and why a text, of these or of a policy, lists none.
 
 ghost use Rattle.std.specs.Prelude.{◌≡◌};
 ghost use Rattle.csv.specs.Reading.{error_kind};

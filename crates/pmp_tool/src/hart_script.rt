@@ -1,4 +1,4 @@
-//! The script of one hart of a log, in a folder with the scripts of the others.
+//! The script of one hart of a log, in a folder with those of the others.
 
 ghost use Rattle.std.specs.Prelude.{◌≡◌, IfOk, string_bytes};
 ghost use Rattle.pmp_tool.specs.HartScripts.{path_in};

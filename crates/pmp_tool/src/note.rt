@@ -23,9 +23,9 @@ pub enum Note {
     TraceRow(u64),
     /// A row of the policy, from 1, the first one.
     PolicyRow(u64),
-    /// The hart of a log that was read twice, its number of entries, and how many writes other harts have.
+    /// The hart of a log that was read twice, how many entries it has, and how many writes other harts have.
     Guessed(u64, u64, u64),
-    /// The hart of a log that was read once, and its number of entries.
+    /// The hart of a log that was read once, and how many entries it has.
     Taken(u64, u64),
     /// The number of scripts that were written to a folder, one for each hart.
     Scripts(u64),

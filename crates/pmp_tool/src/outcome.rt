@@ -38,7 +38,7 @@ pub enum Outcome {
     Compared(u64),
     /// A script was written for a log; the note says what was guessed.
     Imported(Note),
-    /// A help text or the version was written.
+    /// A text of help or the version was written.
     Told,
 }
 

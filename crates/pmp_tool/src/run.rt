@@ -202,7 +202,7 @@ fn answer_by<R: Threads + Wait + Sync, I: Inputs, O: Write>(
     }
 }
 
-/// Writes a help text, or the version.
+/// Writes a text of help, or the version.
 fn tell<O: Write>(alloc: Global, text: &clap::Error, out: &mut O) -> Result<Outcome, Failure>
     ensures ok { IfOk result (λ outcome. (outcome ≡ Told)
         × ((bytes : List ℕ) × Appends (O.contents out.old) (O.contents out.new) bytes)) }

@@ -1,4 +1,4 @@
-//! A long trace, read little by little.
+//! A trace that is read little by little.
 
 use std::io::Read;
 use std::rt::Files;

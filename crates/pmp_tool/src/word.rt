@@ -111,7 +111,7 @@ impl Form for Only {
 /// What a word says about XLEN.
 #[derive(Clone, Copy)]
 pub struct Xlen {
-    /// Whether it is 32 rather than 64.
+    /// Whether it is 32, and not 64.
     pub is_rv32: bool,
 }
 

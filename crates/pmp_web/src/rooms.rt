@@ -1,4 +1,4 @@
-//! The rooms that the page and the module share.
+//! The rooms that a page and the module share.
 
 ghost use Rattle.std.specs.Prelude.{◌≡◌, ◌++◌, ◌≤◌, [], OnErr, OnOk, length, take};
 ghost use Rattle.pmp_web.specs.Rooms.{script_in, text_in};

@@ -32,7 +32,7 @@ pub enum Only {
     Less,
 }
 
-/// Whether the first set has a right that the second lacks.
+/// Whether the first set has a right that the second hasn't.
 fn has_beyond(one: Perms, other: Perms) -> bool
     ensures { result ≡ has_beyond one other }
 {

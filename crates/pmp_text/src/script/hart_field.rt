@@ -16,7 +16,7 @@ pub const GRAINS: [u64; 11] = [4, 8, 16, 32, 64, 128, 256, 512, 1024, 2048, 4096
 /// One thing that a head says about the hart.
 #[derive(Clone, Copy)]
 pub enum HartField {
-    /// Whether XLEN is 32 rather than 64.
+    /// Whether XLEN is 32, and not 64.
     Xlen(bool),
     Entries(u8),
     /// The manual's G.

@@ -37,7 +37,7 @@ use crate::script::version::Version;
 use crate::script::{Script, ScriptFault, shown_size};
 use pmp_core::{BATCH_EVENTS, Event, RegFile};
 
-/// Whether one of these has this name.
+/// Whether one of these has the name.
 fn is_in(marks: &[Mark], name: &Name) -> bool
     ensures { result ≡ is_in marks.now name.now }
 {

@@ -15,7 +15,7 @@ pub struct NumberedLine<'a> {
     pub bytes: &'a [u8],
 }
 
-/// Whether a line has a word, and its first word doesn't begin a comment.
+/// Whether a line has a word, and the first one doesn't begin a comment.
 fn is_significant(line: &[u8]) -> bool
     ensures { result ≡ counts (words line.now) }
 {
