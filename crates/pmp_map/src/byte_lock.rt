@@ -11,7 +11,7 @@ use pmp_core::{Lock, Registers};
 pub enum ByteLock {
     /// Its lock bit is clear, or there is no owner and some entry isn't frozen.
     Open,
-    /// Its lock bit is set, but RLB is set too.
+    /// Its lock bit is set, but so is RLB.
     Bypassed,
     /// It is frozen, and an entry before it isn't.
     Frozen,

@@ -12,6 +12,6 @@ pub struct Run {
     pub first: u64,
     /// The byte address of its last byte.
     pub last: u64,
-    /// The entry's number, or none where no entry matches.
+    /// The entry's number, or none if no entry matches.
     pub owner: Option<u8>,
 }

@@ -18,7 +18,7 @@ use std::snapshot::Snapshot;
 /// The owners of all bytes, as runs. A contract sees a map as the register file that it was built from.
 #[derive(Drop)]
 pub struct RunMap {
-    /// The file that it was built from, for contracts alone.
+    /// The file that it was built from, for contracts only.
     file: Snapshot<RegFile>,
     tables: Tables,
     runs: ArrayVec<Run, RUNS>,

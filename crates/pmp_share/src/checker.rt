@@ -30,7 +30,7 @@ pub struct Moved {
     pub seen: u64,
 }
 
-/// Decides accesses in whole published batches, and never goes back behind what it saw or learnt of. It holds no
+/// Decides accesses in whole published batches, and never falls behind what it has seen or learnt. It holds no
 /// version entered between its calls, and can be sent to any thread. A contract sees the batches that it knows, and
 /// which unit they belong to.
 #[derive(Drop)]

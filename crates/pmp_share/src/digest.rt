@@ -91,7 +91,7 @@ impl Digest {
         self.events < other.events || (self.events == other.events && self.batches <= other.batches)
     }
 
-    /// Whether this is as early, for batches of one unit. If so, these batches are a prefix of the other's; otherwise
+    /// Returns the same for batches of one unit. If true, these batches are a prefix of the other's; otherwise
     /// the other's are a prefix of these.
     pub fn is_before(&self, other: &Digest) -> bool
         requires unit { other.now.unit ≡ self.now.unit }

@@ -10,7 +10,7 @@ use pmp_core::Event;
 /// The greatest number of events of one unit, published and pending together, and its greatest number of batches.
 pub const HISTORY_LIMIT: usize = 1 << 20;
 
-/// Whether `more` still stays within the limit, computed without a sum that could overflow.
+/// Whether `more` further ones stay within the limit, computed without a sum that could overflow.
 fn is_within(published: usize, pending: usize, more: usize) -> bool
     ensures { result ≡ nat_le (published + pending + more) HISTORY_LIMIT }
 {

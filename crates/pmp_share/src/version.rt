@@ -23,7 +23,7 @@ pub struct Version {
     file: RegFile,
     map: RunMap,
     history: History,
-    /// What the unit began with, for contracts alone.
+    /// What the unit began with, for contracts only.
     base: Snapshot<RegFile>,
     ghost replayed: { file ≡ file_from base.value journal },
     ghost mapped: { map ≡ file },

@@ -30,7 +30,7 @@ type UnitWriter = Writer<Version, LoggedBatch, Knowledge, OneHistory>;
 /// shows, and the history.
 pub struct WriterState {
     alloc: Global,
-    /// What the unit began with, for contracts alone.
+    /// What the unit began with, for contracts only.
     base: Snapshot<RegFile>,
     writer: UnitWriter,
     recorder: Recorder,
