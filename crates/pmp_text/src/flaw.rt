@@ -38,7 +38,7 @@ impl Refusal {
 }
 
 impl Flaw {
-    /// Returns the fault of the line with this number, or 0 for the text as a whole.
+    /// Returns the fault of the line with this number; 0 is the text as a whole.
     pub(crate) fn at_line(self, line: u64) -> ScriptFault
         ensures { result ≡ at_line line self }
     {
@@ -49,7 +49,7 @@ impl Flaw {
         }
     }
 
-    /// Returns the fault of the row with this number, or 0 for the text as a whole.
+    /// Returns the fault of the row with this number; 0 is the text as a whole.
     pub fn at_row(self, row: u64) -> TraceFault
         ensures { result ≡ at_row row self }
     {

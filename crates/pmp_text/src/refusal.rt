@@ -53,7 +53,7 @@ pub enum Refusal {
     Input = 41,
     /// An output that can't be written.
     Output = 42,
-    /// A `hart` or `set` line stands after the first `write`, `reset` or `publish`.
+    /// A `hart` or `set` line comes after the first `write`, `reset` or `publish`.
     LateHead = 50,
     /// The same is said of the hart twice, the same register is set twice, or two moments have one name.
     Twice = 51,
@@ -67,7 +67,7 @@ pub enum Refusal {
     BadGrain = 55,
     /// A moment's name that is invalid.
     BadMark = 56,
-    /// A `mark` stands between an event and its `publish`.
+    /// A `mark` is between an event and its `publish`.
     OpenMark = 57,
     /// A name that the script gives to no moment.
     NoMoment = 58,

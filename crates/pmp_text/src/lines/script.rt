@@ -27,7 +27,7 @@ fn smepmp_word(has_smepmp: bool) -> &'static str
     if has_smepmp { "yes" } else { "no" }
 }
 
-/// The line that gives XLEN, only for RV32.
+/// Returns the line that gives XLEN, only for RV32.
 #[tactic(auto, unfolding(crate::specs::GivenBack::xlen_line))]
 fn xlen_line(hart: &Hart) -> &'static str
     ensures { result.now ≡ xlen_line hart.now }
