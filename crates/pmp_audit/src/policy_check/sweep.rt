@@ -54,7 +54,7 @@ impl Judged {
         }
     }
 
-    /// Returns the verdict on the row. A row whose moments don't come is judged in the last state, but not by that.
+    /// Returns the verdict on the row. One whose moments don't come is judged in the last state, which isn't reported.
     pub fn told(&self) -> Verdict
         ensures { result ≡ told_of self.now }
     {
