@@ -62,8 +62,8 @@ fn write_runs<S: Sink>(out: &mut S, access: &Access, runs: &[AnswerRun]) -> Resu
     Ok(())
 }
 
-/// Appends a row for each of these runs, `FIRST,ANSWER,FAULT,CAUSE,ENTRY` and LF: a report row whose number is the first
-/// moment of the run.
+/// Appends a row for each of these runs, `FIRST,ANSWER,FAULT,CAUSE,ENTRY` and LF: a report row whose number is the
+/// first moment of the run.
 pub fn append_history<S: Sink>(
     out: &mut S,
     access: &Access,

@@ -19,14 +19,14 @@ pub enum Question {
     IsNotHeld,
 }
 
-/// Whether the kind is one of these, and whether it is allowed equals `allowed`.
+/// Whether the kind is one of these, and is allowed if `allowed` is true, or refused if it is false.
 fn finds_kind(allowed: bool, rights: Perms, kinds: Kinds, kind: Kind) -> bool
     ensures { (given : Rights) → rights ≡ perms_of given → result ≡ finds_kind allowed given kinds kind }
 {
     kinds.has(kind) && rights.allows(kind) == allowed
 }
 
-/// Whether one of these kinds is allowed, or one is not if `allowed` is false.
+/// Whether one of these kinds is allowed if `allowed` is true, or refused if it is false.
 fn finds_in(allowed: bool, rights: Perms, kinds: Kinds) -> bool
     ensures { (given : Rights) → rights ≡ perms_of given → result ≡ finds_in allowed given kinds }
 {
