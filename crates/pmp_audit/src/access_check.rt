@@ -1,4 +1,4 @@
-//! One access, decided after publications of a script.
+//! One access, decided after some of a script's publications.
 
 ghost use Rattle.std.specs.Prelude.{◌≡◌, IfOk, IfErr, OnErr};
 ghost use Rattle.pmp_audit.specs.AccessCheck.{CheckSays};
@@ -14,10 +14,10 @@ use pmp_text::{EventLog, GrowingLog, Sink, When, read_script, write_row};
 use std::alloc::Global;
 use std::io::Write;
 
-/// Decides the access after the publications of the script that are done then, or after all of them where that is none,
-/// and writes its report row, with the number 1.
+/// Decides the access after the script's publications done at `after`, or after all of them if that is none, and writes
+/// its report row, with the number 1.
 ///
-/// The row is whole before its first byte is written, so every refusal but `Output` leaves the output untouched.
+/// The row is complete before its first byte is written, so every refusal but `Output` leaves the output untouched.
 #[inline(never)]
 pub fn check<W: Write>(
     alloc: Global,
@@ -37,8 +37,8 @@ pub fn check<W: Write>(
     write_answer(writer, &row, decision)
 }
 
-/// Appends the row that `check` writes. The script's events are kept in the log, and `Memory` says that they have no
-/// room there, or the row none.
+/// Appends the row that `check` writes. The log keeps the script's events; `Memory` means that there is no room for
+/// them there, or none for the row.
 pub fn append_check<L: EventLog, S: Sink>(
     log: &mut L,
     script: &[u8],

@@ -1,4 +1,4 @@
-//! Answers that come with a text.
+//! Answers that are returned together with a text.
 
 ghost use Rattle.std.specs.Prelude.{◌≡◌, ◌⊎◌, IfOk, IfErr, OnErr, OnOk, Ok, Err};
 ghost use Rattle.std.specs.Io.KnownBytes.{Appends, Keeps};
@@ -10,7 +10,7 @@ use crate::fault::AuditFault;
 use pmp_text::{OutputFault, write_out};
 use std::io::Write;
 
-/// Writes the whole text that goes with an answer, and gives the answer. A refusal is given with nothing written.
+/// Writes the whole text of an answer, and returns the answer. A refusal is returned with nothing written.
 pub fn write_answer<W: Write, A: Copy>(
     writer: &mut W,
     text: &[u8],
@@ -28,7 +28,7 @@ pub fn write_answer<W: Write, A: Copy>(
     Ok(answer)
 }
 
-/// Writes texts, one behind the other.
+/// Writes texts, one after another.
 pub fn write_texts<W: Write>(writer: &mut W, texts: &[Vec<u8>]) -> Result<(), OutputFault>
     ensures ok { OnOk result (Appends (W.contents writer.old) (W.contents writer.new) (items_of texts.now)) }
     ensures err { OnErr result

@@ -1,4 +1,4 @@
-//! How many of a script's publications are asked for.
+//! The number of a script's publications that a question asks for.
 
 ghost use Rattle.std.specs.Prelude.{◌≤◌, IfOk, IfErr, Some, length};
 ghost use Rattle.pmp_audit.specs.AskedFile.{IsAsked, IsLacking};
@@ -7,7 +7,7 @@ use crate::fault::AuditFault;
 use crate::moments::moments_of;
 use pmp_text::{Script, When};
 
-/// Those that are done then; `NoMoment` where the script has no such moment.
+/// Returns how many are done then; `NoMoment` if the script has no such moment.
 fn count_at(script: &Script, when: When) -> Result<u64, AuditFault>
     ensures ok { IfOk result (IsAsked (Some when) script.now) }
     ensures err { IfErr result (IsLacking (Some when) script.now) }
@@ -21,8 +21,8 @@ fn count_at(script: &Script, when: When) -> Result<u64, AuditFault>
     }
 }
 
-/// Those that are done then, or all of them where that is none; `BadAfter` where there are fewer, and `NoMoment` where
-/// the script has no such moment.
+/// Returns how many are done then, or the number of all if that is none; `BadAfter` if there are fewer, and `NoMoment`
+/// if the script has no such moment.
 pub fn asked_count(script: &Script, after: Option<When>) -> Result<u64, AuditFault>
     ensures within { IfOk result (λ count. count ≤ length script.now.batches) }
     ensures count { IfOk result (IsAsked after script.now) }

@@ -1,4 +1,4 @@
-//! What a script expects of registers, as rows.
+//! The rows for what a script expects of registers.
 
 ghost use Rattle.std.specs.Prelude.{◌≡◌, ◌++◌, IfOk, OnErr};
 ghost use Rattle.pmp_audit.specs.Growing.{HasGrown};
@@ -8,7 +8,7 @@ use pmp_core::RegFile;
 use pmp_text::{Script, Sink, write_expected};
 use std::alloc::AllocError;
 
-/// Brings the register file from the one behind so many events of the script to the one behind so many others.
+/// Advances the register file from its state after `done` events of the script to its state after `events`.
 fn advance(script: &Script, file: &mut RegFile, done: u64, events: u64)
     requires { file.old ≡ file_at_event script.now done }
     ensures { file.new ≡ file_at_event script.now events }
@@ -24,7 +24,7 @@ fn advance(script: &Script, file: &mut RegFile, done: u64, events: u64)
     }
 }
 
-/// Appends a row for each expectation, and answers how many of them differ.
+/// Appends a row for each expectation, and returns how many of them differ.
 pub fn write_expectations<S: Sink>(out: &mut S, script: &Script) -> Result<u64, AllocError>
     ensures rows { IfOk result (λ _. S.text out.new ≡ S.text out.old
         ++ expected_rows script.now script.now.expectations) }

@@ -1,4 +1,4 @@
-//! Why a script, two scripts, or a script and another text, get no answer.
+//! The reasons why a script, two scripts, or a script and another text, get no answer.
 
 ghost use Rattle.std.specs.Prelude.{◌≡◌};
 ghost use Rattle.pmp_audit.specs.Fault.{fault_of_policy, fault_of_script, fault_of_share, fault_of_trace, refusal_of};
@@ -21,7 +21,7 @@ pub enum Side {
 /// Why a script, two scripts, or a script and another text, get no answer.
 #[derive(Clone, Copy, Debug, PartialEq, Eq, Error)]
 pub enum AuditFault {
-    /// The script's own fault, which isn't `Memory`.
+    /// The script's own fault, except `Memory`.
     #[error("the script has a fault")]
     Script(ScriptFault),
     /// The trace's own fault, or that its input failed; not `Memory`.
@@ -30,28 +30,28 @@ pub enum AuditFault {
     /// The policy's own fault, or that its input failed; not `Memory`.
     #[error("the policy has a fault")]
     Policy(TraceFault),
-    /// The shared unit's refusal, which isn't `Memory`.
+    /// The shared unit's refusal, except `Memory`.
     #[error("the shared unit has no place")]
     Share(ShareFault),
-    /// More events were published than a worker was told of.
+    /// More events were published than a worker's notice reported.
     #[error("more events were published than a worker was told of")]
     Moved(Moved),
     /// The script has fewer publications than were asked for.
     #[error("the script has fewer publications than were asked for")]
     BadAfter,
-    /// The script has no such moment as was asked for.
+    /// The script has no such moment as the question names.
     #[error("the script has no such moment as was asked for")]
     NoMoment,
-    /// The fault of one of two scripts, which isn't `Memory`.
+    /// The fault of one of two scripts, except `Memory`.
     #[error("one of the scripts has a fault")]
     ScriptOf(Side, ScriptFault),
     /// One of two scripts has fewer publications than were asked for.
     #[error("one of the scripts has fewer publications than were asked for")]
     BadAfterOf(Side),
-    /// One of two scripts has no such moment as was asked for.
+    /// One of two scripts has no such moment as the question names.
     #[error("one of the scripts has no such moment as was asked for")]
     NoMomentOf(Side),
-    /// No memory.
+    /// Out of memory.
     #[error("out of memory")]
     Memory,
     /// The output can't be written.
@@ -60,7 +60,7 @@ pub enum AuditFault {
 }
 
 impl AuditFault {
-    /// Its number and name.
+    /// Returns its refusal: number and name.
     pub fn refusal(&self) -> Refusal
         ensures { result ≡ refusal_of self.now }
     {
@@ -77,7 +77,7 @@ impl AuditFault {
         }
     }
 
-    /// The fault of a script as that of the one on this side.
+    /// Returns the fault of a script as that of the script on this side.
     pub fn on_side(self, side: Side) -> AuditFault
         ensures { result ≡ fault_on side self }
     {
@@ -89,7 +89,7 @@ impl AuditFault {
         }
     }
 
-    /// A policy gets no answer for this.
+    /// Returns the reason why a policy gets no answer.
     pub(crate) fn of_policy(fault: TraceFault) -> AuditFault
         ensures { result ≡ fault_of_policy fault }
     {

@@ -1,12 +1,12 @@
-//! Gates: what a worker of a shared audit passes between two rows.
+//! Gates: callbacks that a worker of a shared audit passes between two rows.
 
-/// Called by the workers of a shared audit, which share it. It may wait, and the audit then waits too.
+/// A callback that the workers of a shared audit share. It may wait, and then the audit waits too.
 pub trait Gate {
-    /// A worker, of those numbered from 0, has decided the row with this number of the report, counted from 1. It goes
-    /// on once the call returns. No row has more than one call, and where the audit answers, each row had one.
+    /// Worker `worker`, numbered from 0, has decided the report row `row`, numbered from 1. It continues once the call
+    /// returns. Each row has at most one call, and exactly one if the audit succeeds.
     fn pass(&self, worker: u8, row: u64);
 
-    /// Whether a worker may wait in `pass` for a row of another one. Where none does, workers that have few rows take
+    /// Whether a worker may wait in `pass` for another worker's row. If none does, workers that have few rows take
     /// turns on one thread.
     fn may_wait(&self) -> bool {
         true

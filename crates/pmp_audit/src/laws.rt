@@ -6,7 +6,7 @@ ghost use Rattle.pmp_audit.specs.Laws.{OneReportLaw, SinceLaw};
 use pmp_core::laws::{law_one_decision, law_one_span, law_protected};
 use pmp_map::laws::law_one_list_of_compared_runs;
 
-/// Rows have one list of decisions that are each the manual's, however they are come by.
+/// Rows have one list of decisions that are each the manual's, no matter how they are computed.
 #[tactic(auto, using(crate::proofs::OneReport::one_list_of_decisions))]
 pub fn law_one_list_of_decisions()
     ensures { OneListOfDecisionsLaw }
@@ -14,34 +14,34 @@ pub fn law_one_list_of_decisions()
     law_one_decision();
 }
 
-/// A script and a trace have one report, and one summary.
+/// A script and a trace have exactly one report and one summary.
 pub fn law_one_report()
     ensures { OneReportLaw }
 {
     law_one_list_of_decisions();
 }
 
-/// A script and a policy have one answer, and one summary.
+/// A script and a policy have exactly one answer and one summary.
 pub fn law_one_policy_answer()
     ensures { OnePolicyAnswerLaw }
 {}
 
-/// Two scripts have one list of differences.
+/// Two scripts have exactly one list of differences.
 pub fn law_one_difference()
     ensures { OneDifferenceLaw }
 {
     law_one_list_of_compared_runs();
 }
 
-/// Where an entry is frozen, it has been so, with its configuration and its bytes, ever since the publication that
-/// SINCE names; and where it is held, what it and the entries before it decide has been protected since HOLDS.
+/// If an entry is frozen, it has been so, with its configuration and its bytes, ever since the publication in SINCE;
+/// and if it is held, what it and the entries before it decide has been protected since HOLDS.
 pub fn law_since()
     ensures { SinceLaw }
 {
     law_protected();
 }
 
-/// A script has one entry list after each number of publications.
+/// A script has exactly one entry list after each number of publications.
 pub fn law_one_entry_list()
     ensures { OneEntryListLaw }
 {

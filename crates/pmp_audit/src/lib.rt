@@ -1,4 +1,4 @@
-//! The answers: accesses decided after a script's publications, what these leave, and what each write did.
+//! The answers: accesses decided after a script's publications, the resulting registers, and the effect of each write.
 #![tactic(auto)]
 
 mod access_check;

@@ -19,19 +19,19 @@ use std::alloc::Global;
 use std::io::{Read, Write};
 use std::thread::Threads;
 
-/// The most bytes of a piece that the program takes at a time.
+/// The greatest piece that the program takes at a time, in bytes.
 pub const PIECE: usize = 1 << 23;
 
-/// Answers as [`audit`](crate::audit) does, but of a trace of any length, whose first row has the number `first`, and
-/// in memory for two pieces of at most `limit` bytes.
+/// Works as [`audit`](crate::audit), but on a trace of any length, whose first row has the number `first`, and in
+/// memory for two pieces of at most `limit` bytes.
 ///
-/// The trace is cut at line ends. Each piece is decided and reported before the one behind the next is taken, so a
-/// refusal but `Script` may come behind rows that are written. `TooLong` is answered where as many bytes as a piece
-/// has, but one, have no line's end.
+/// The trace is cut at line ends. Each piece is decided and reported before the second one after it is taken, so any
+/// refusal but `Script` may come after rows are written. `TooLong` is returned if a run of bytes only one shorter than
+/// a piece has no line end.
 ///
-/// The rows of a piece are read, and then decided, in `jobs` parts at a time, each on a thread of its own where one can
-/// be made, while the calling thread takes the next piece; all have ended when the call answers. None is started for a
-/// `jobs` of 0 or 1.
+/// The rows of a piece are read, and then decided, in `jobs` parts at a time, each on a thread of its own if one can be
+/// created, while the calling thread takes the next piece; all threads have ended when the call returns. None is
+/// started for a `jobs` of 0 or 1.
 #[inline(never)]
 pub fn audit_long<T: Threads + Sync, R: Read, W: Write>(
     rt: &T,
@@ -53,7 +53,7 @@ pub fn audit_long<T: Threads + Sync, R: Read, W: Write>(
     audit_pieces(rt, alloc, jobs, &parsed, first, limit, reader, writer)
 }
 
-/// Reads, decides and reports piece by piece, whatever text the script was read from.
+/// Reads, decides and reports piece by piece, independent of the text that the script was read from.
 fn audit_pieces<T: Threads + Sync, R: Read, W: Write>(
     rt: &T,
     alloc: Global,

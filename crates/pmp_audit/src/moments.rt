@@ -1,4 +1,4 @@
-//! The moments of a script that words may say.
+//! The moments of a script that words may name.
 
 ghost use Rattle.std.specs.Prelude.{◌≡◌, length};
 ghost use Rattle.pmp_audit.specs.LastingStep.{lasting_with, since};
@@ -8,7 +8,7 @@ use crate::replay::Replay;
 use pmp_core::{Csr, RegFile};
 use pmp_text::{Lasting, Moments, Script};
 
-/// From when on it holds once so many publications are done, where it held from `before` on until then.
+/// Returns since when it holds after `done` publications, if before that it held since `before`.
 fn since(before: Option<u64>, holds: bool, done: u64) -> Option<u64>
     ensures { result ≡ since before holds done }
 {
@@ -19,7 +19,7 @@ fn since(before: Option<u64>, holds: bool, done: u64) -> Option<u64>
     }
 }
 
-/// The same of each thing that lasts, with the register file after so many publications.
+/// Returns the same for each lasting condition, given the register file after `done` publications.
 fn lasting_with(before: &Lasting, file: &RegFile, done: u64) -> Lasting
     ensures { result ≡ lasting_with before.now file.now done }
 {
@@ -31,7 +31,7 @@ fn lasting_with(before: &Lasting, file: &RegFile, done: u64) -> Lasting
     }
 }
 
-/// From when on each of them lasts to the script's end.
+/// Returns since when each condition lasts to the script's end.
 fn lasting(script: &Script<'_>) -> Lasting
     ensures { AllLast script.now (length script.now.batches) result }
 {
@@ -44,7 +44,7 @@ fn lasting(script: &Script<'_>) -> Lasting
     lasting
 }
 
-/// The moments of a script that words may say.
+/// Returns the moments of a script that words may name.
 pub fn moments_of<'a>(script: &Script<'a>) -> Moments<'a>
     ensures { AreMoments script.now result }
 {

@@ -12,14 +12,14 @@ use crate::standing::Standing;
 use pmp_text::{RowReader, Script};
 use std::alloc::Global;
 
-/// The report of a piece, text by text, and where the next piece stands.
+/// The report of a piece, text by text, and where the next piece begins.
 #[derive(Drop)]
 pub struct PieceReport {
     pub texts: Vec<Vec<u8>>,
     pub behind: Standing,
 }
 
-/// Decides the rows that are left where they stand, each as soon as it is read.
+/// Decides the remaining rows in place, each as soon as it is read.
 fn report_rows(
     alloc: Global,
     script: &Script,
@@ -53,7 +53,7 @@ fn report_rows(
     })
 }
 
-/// Reads a piece where it stands, and decides its rows. Beside the report only one record takes memory.
+/// Reads a piece in place, and decides its rows. Besides the report only one record takes memory.
 pub fn report_piece(
     alloc: Global,
     script: &Script,

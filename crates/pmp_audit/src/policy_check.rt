@@ -1,4 +1,4 @@
-//! The rows of a policy, each judged in all states that it asks of.
+//! The rows of a policy, each judged in all states that it asks about.
 
 ghost use Rattle.std.specs.Prelude.{◌≡◌, ◌+◌, ◌^◌, ◌<◌, ◌≤◌, ◌++◌, All, IfOk, IfErr, OnErr, OnOk, length, map};
 ghost use Rattle.std.specs.Prelude.{None, Some, if◌then◌else◌, slice_get};
@@ -33,18 +33,18 @@ pub use steps::Pace;
 pub struct PolicySummary {
     pub rows: u64,
     pub broken: u64,
-    /// The number of the first row with an address of 14 digits without `0x`: a decimal number, where rows mean
+    /// The number of the first row with an address of 14 digits without `0x`: a decimal number, though rows write
     /// hexadecimal.
     pub bare: Option<u64>,
 }
 
 /// Judges each row of the policy after the script's publications that it names, or after each of their events, and
-/// writes a row for each, numbered from 1: that it holds, or its first breach, in time and then in address, or that its
+/// writes a row for each, numbered from 1: that it holds, or its first breach by time and then by address, or that its
 /// moments never come.
 ///
-/// The script's fault comes before any of the policy. The text is whole before its first byte is written, so every
-/// refusal but `Output` leaves the output untouched. The states are gone through once, and a row is asked again where a
-/// byte of its range may have moved; else a row costs a state the comparison of two ranges.
+/// The script's fault comes before any of the policy. The text is complete before its first byte is written, so every
+/// refusal but `Output` leaves the output untouched. There is one pass over the states: a row is checked again only if
+/// a byte of its range may have moved; otherwise it costs a comparison of two ranges per state.
 #[inline(never)]
 pub fn check_policy<W: Write>(
     alloc: Global,
@@ -76,8 +76,8 @@ pub fn check_policy<W: Write>(
     write_answer(writer, &text, Ok(summary))
 }
 
-/// Appends the verdict on one row, as that of the row with this number, and answers it. The
-/// script's events are kept in the log, and `Memory` says that they have no room there, or the text none.
+/// Appends the verdict on one row, under this row number, and returns it. The log keeps the script's events; `Memory`
+/// means that there is no room for them there, or none for the text.
 ///
 /// The script's fault comes before any of the row.
 pub fn append_verdict<L: EventLog, S: Sink>(
@@ -108,7 +108,7 @@ pub fn append_verdict<L: EventLog, S: Sink>(
     Ok(verdict)
 }
 
-/// Appends the verdicts on the rows, with the labels of those that have one.
+/// Appends the verdicts on the rows, with the labels of the rows that have one.
 fn write_verdicts(
     out: &mut Vec<u8>,
     judged: &[Judged],
@@ -124,7 +124,7 @@ fn write_verdicts(
 }
 
 impl PolicySummary {
-    /// One more row, and its verdict, appended to a text.
+    /// Adds one more row, whose verdict it appends to a text.
     fn add_row(
         &mut self,
         out: &mut Vec<u8>,

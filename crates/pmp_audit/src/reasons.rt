@@ -1,4 +1,4 @@
-//! Why an access is decided as it is after publications of a script, and what is found in a script.
+//! Why an access is decided as it is after some of a script's publications, and the findings in a script.
 
 ghost use Rattle.std.specs.Prelude.{◌≡◌, ◌++◌, IfErr, IfOk, OnErr, OnOk};
 ghost use Rattle.pmp_audit.specs.Answers.{Declines, IsAppended, IsRefused, IsWritten};
@@ -17,10 +17,10 @@ use pmp_text::{EventLog, GrowingLog, NoMemory, Sink, When, read_script};
 use std::alloc::Global;
 use std::io::Write;
 
-/// Decides the access after the publications of the script that are done then, or after all of them where that is none,
-/// and writes why it is decided so, and behind that row the report rows of its decisions at all moments.
+/// Decides the access after the script's publications done at the given moment, or after all of them if that is none,
+/// and writes why, and after that row the report rows of its decisions at all moments.
 ///
-/// The rows are whole before their first byte is written, so every refusal but `Output` leaves the output untouched.
+/// The rows are complete before their first byte is written, so every refusal but `Output` leaves the output untouched.
 pub fn explain<W: Write>(
     alloc: Global,
     script: &[u8],
@@ -40,8 +40,8 @@ pub fn explain<W: Write>(
     write_answer(writer, &text, told)
 }
 
-/// Appends the rows that `explain` writes. The script's events are kept in the log, and `Memory` says that they have no
-/// room there, or the rows none.
+/// Appends the rows that `explain` writes. The log keeps the script's events; `Memory` means that there is no room for
+/// them there, or none for the rows.
 pub fn append_reasons<L: EventLog, S: Sink>(
     alloc: Global,
     log: &mut L,
@@ -81,9 +81,9 @@ fn write_reasons<S: Sink>(
     written
 }
 
-/// Writes a row for each finding of the script that isn't accepted, lint after lint, and answers how many these are.
+/// Writes a row for each finding of the script that isn't accepted, lint by lint, and returns their number.
 ///
-/// The rows are whole before their first byte is written, so every refusal but `Output` leaves the output untouched.
+/// The rows are complete before their first byte is written, so every refusal but `Output` leaves the output untouched.
 pub fn lint<W: Write>(
     alloc: Global,
     script: &[u8],

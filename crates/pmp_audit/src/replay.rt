@@ -1,4 +1,4 @@
-//! The register file as a script's publications are done.
+//! The register file as a script's publications are executed.
 
 ghost use Rattle.std.specs.Prelude.{◌≡◌, ◌≤◌, length};
 ghost use Rattle.pmp_core.specs.Decision.{IsDecision};
@@ -9,14 +9,14 @@ use pmp_map::RunMap;
 use pmp_text::Script;
 use std::marker::Model;
 
-/// A script whose first publications are done. A contract sees the script, and how many of its publications are done.
+/// A script whose first publications are executed. A contract sees the script, and the number of these publications.
 #[derive(Drop)]
 pub struct Replay<'a> {
     script: &'a Script<'a>,
     done: u64,
     /// The register file that these give.
     file: RegFile,
-    /// Its map, once something was decided in it.
+    /// Its map, once a decision needed it.
     map: Option<RunMap>,
 }
 
@@ -36,7 +36,7 @@ impl<'a> Model for Replay<'a> {
 }
 
 impl<'a> Replay<'a> {
-    /// Before the first publication.
+    /// Returns the state before the first publication.
     pub fn new(script: &'a Script<'a>) -> Replay<'a>
         ensures { result ≡ record { script = script.now; done = 0 } }
     {
@@ -48,7 +48,7 @@ impl<'a> Replay<'a> {
         }
     }
 
-    /// After the first `count` publications.
+    /// Returns the state after the first `count` publications.
     pub fn after(script: &'a Script<'a>, count: u64) -> Replay<'a>
         requires { count ≤ length script.now.batches }
         ensures { result ≡ record { script = script.now; done = count } }
@@ -58,7 +58,7 @@ impl<'a> Replay<'a> {
         replay
     }
 
-    /// Does publications until the first `count` are done.
+    /// Executes publications until the first `count` are done.
     pub fn advance(&mut self, count: u64)
         requires forward { self.old.done ≤ count }
         requires within { count ≤ length self.old.script.batches }
@@ -73,7 +73,7 @@ impl<'a> Replay<'a> {
         }
     }
 
-    /// The register file after the publications that are done.
+    /// Returns the register file after the publications that are done.
     pub fn file(&self) -> &RegFile
         ensures { result.now ≡ file_at self.now }
     {
@@ -91,8 +91,8 @@ impl<'a> Replay<'a> {
         }
     }
 
-    /// Decides an access in that file, and builds its map. It stands alone since each decision would else clear the
-    /// room of a map.
+    /// Decides an access in that file, and builds its map. It is out of line because otherwise each decision would
+    /// clear the room of a map.
     #[cold]
     #[inline(never)]
     fn decide_anew(&mut self, access: &Access) -> Decision

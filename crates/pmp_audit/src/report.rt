@@ -1,4 +1,4 @@
-//! The report of rows, one after the other.
+//! The report of rows, one after another.
 
 ghost use Rattle.std.specs.Prelude.{◌≡◌, ◌++◌, IfOk, OnOk, length, if◌then◌else◌};
 ghost use Rattle.pmp_text.specs.LongTraces.{report_text_from};
@@ -9,7 +9,7 @@ use pmp_core::Decision;
 use pmp_text::{Row, write_row};
 use std::alloc::AllocError;
 
-/// Appends a report row for each row and its decision, numbered from 1: how many accesses are refused.
+/// Appends a report row for each row and its decision, numbered from 1, and returns how many accesses are refused.
 pub fn list_decisions(
     report: &mut Vec<u8>,
     rows: &[Row],
@@ -27,7 +27,7 @@ pub fn list_decisions(
     Ok(faults)
 }
 
-/// Appends the row of an access that was decided so: how many accesses that refuses.
+/// Appends the row of an access with this decision, and returns how many accesses that refuses.
 pub fn list_row(
     report: &mut Vec<u8>,
     number: u64,

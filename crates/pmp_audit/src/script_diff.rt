@@ -1,4 +1,4 @@
-//! Where the register files of two scripts differ in what they let the modes do, and in how they lock.
+//! The differences between the register files of two scripts in what they let the modes do, and in how they lock.
 
 ghost use Rattle.std.specs.Prelude.{◌≡◌, ◌≤◌, IfOk, IfErr, OnErr};
 ghost use Rattle.pmp_audit.specs.Answers.{Declines, IsAppended, IsWritten, IsRefused};
@@ -17,22 +17,22 @@ use pmp_text::{EventLog, GrowingLog, Only, Sink, When, read_script, write_change
 use std::alloc::{AllocError, Global};
 use std::io::Write;
 
-/// Which rows of a difference are asked for.
+/// The wanted rows of a difference.
 #[derive(Clone, Copy, Debug, PartialEq, Eq)]
 pub struct AskedChanges {
-    /// Which rows of rights, where not all are.
+    /// Which rows of rights are wanted, if not all.
     pub only: Option<Only>,
-    /// Whether the rows of locks are too.
+    /// Whether the rows of locks are wanted too.
     pub has_locks: bool,
 }
 
 /// Writes a row for each of the longest ranges of bytes where the two register files differ in what they let the modes
-/// do, whoever owns the bytes, and answers how many rows these are. The old file is that after the publications of the
-/// script `old` that are done at `old_after`, or after all of them where that is none; the new one the same of `new`.
-/// If only more is asked for, or only less, other rows of rights are left out. If locks are asked for, a row follows for
-/// each of the longest ranges where the files differ in how they lock.
+/// do, regardless of the owner of the bytes, and returns the number of rows. The old file is that after the
+/// publications of the script `old` that are done at `old_after`, or after all of them if that is none; likewise the
+/// new one. If only more or only less is wanted, other rows of rights are left out. If locks are wanted, a row follows
+/// for each of the longest ranges where the files differ in how they lock.
 ///
-/// The old script's fault comes first. The text is whole before its first byte is written, so every refusal but
+/// The old script's fault comes first. The text is complete before its first byte is written, so every refusal but
 /// `Output` leaves the output untouched.
 #[inline(never)]
 pub fn diff<W: Write>(
@@ -57,8 +57,8 @@ pub fn diff<W: Write>(
     write_answer(writer, &text, rows)
 }
 
-/// Appends the text that `diff` writes. The events of one script after the other are kept in the log, and `Memory` says
-/// that they have no room there, or the text none.
+/// Appends the text that `diff` writes. The log keeps the events of one script after the other; `Memory` means that
+/// there is no room for them there, or none for the text.
 pub fn append_diff<L: EventLog, S: Sink>(
     log: &mut L,
     old: &[u8],
@@ -83,7 +83,7 @@ pub fn append_diff<L: EventLog, S: Sink>(
     Ok(rows?)
 }
 
-/// Appends the rows that are asked for, and answers how many these are.
+/// Appends the wanted rows, and returns their number.
 #[tactic(auto, using(crate::proofs::Differences::both_written))]
 fn write_rows<S: Sink>(
     out: &mut S,
@@ -99,7 +99,7 @@ fn write_rows<S: Sink>(
     Ok(rights + locks)
 }
 
-/// Appends the rows of locks, if they are asked for, and answers how many these are.
+/// Appends the rows of locks, if they are wanted, and returns their number.
 #[tactic(auto, using(crate::proofs::Differences::none_asked))]
 fn write_locks<S: Sink>(
     out: &mut S,
@@ -119,8 +119,8 @@ fn write_locks<S: Sink>(
     }
 }
 
-/// Appends a row for each of the longest ranges where the files differ by this aspect as is asked, and answers how many
-/// these are.
+/// Appends a row for each of the longest ranges where the files have a wanted difference in this aspect, and returns
+/// the number of rows.
 fn write_differences<S: Sink>(
     out: &mut S,
     aspect: Aspect,
@@ -144,7 +144,7 @@ fn write_differences<S: Sink>(
     Ok(rows)
 }
 
-/// The register file after the publications of the script that are done then, or after all of them where that is none.
+/// Returns the register file after the script's publications done then, or after all of them if that is none.
 fn file_after<L: EventLog>(
     log: &mut L,
     script: &[u8],

@@ -28,16 +28,15 @@ use std::io::Write;
 use std::sync::Wait;
 use std::thread::Threads;
 
-/// Answers as [`audit`](crate::audit) does, by `k` workers, each with a checker of one unit and mostly a thread of its
-/// own.
+/// Works as [`audit`](crate::audit), with `k` workers, each with a checker of one unit and usually a thread of its own.
 ///
-/// The script's publications are done one at a time, and after each, and before the first, the rows that ask for just
-/// these go to the workers: of those with one `after`, worker `w` takes the rows whose place, from 0, modulo `k` is
-/// `w`. The next publication is done once all of them are decided. Where no thread can be made, a worker's rows are
-/// decided on the calling thread, and so are those of workers that have few, if the gate says that it doesn't wait.
+/// The script's publications are executed one at a time. Before the first and after each, the rows that ask for exactly
+/// these go to the workers: of the rows with the same `after`, worker `w` takes those whose index, from 0, modulo `k`
+/// is `w`. The next publication follows once all of them are decided. If no thread can be created, a worker's rows are
+/// decided on the calling thread, and so are those of workers that have few, if the gate doesn't wait.
 ///
-/// Besides the refusals of `audit` there are `Share(NoPlace)` and `Moved`, both only where neither input has a fault.
-/// Whatever the answer is, the workers have ended. It may wait.
+/// Besides the refusals of `audit` it may return `Share(NoPlace)` and `Moved`, both only if neither input has a fault.
+/// In every case the workers have ended when it returns. It may wait.
 #[inline(never)]
 pub fn audit_shared<R: Threads + Wait + Sync, G: Gate + Sync, W: Write>(
     rt: &R,

@@ -1,4 +1,4 @@
-//! Since when entries are frozen, and since when they are held.
+//! The moments since which entries are frozen, and since which they are held.
 
 ghost use Rattle.std.specs.Prelude.{◌≡◌, ◌<◌, ◌≤◌, ℕ, length, take};
 ghost use Rattle.std.specs.List.{list_all, slice_index_or};
@@ -18,7 +18,7 @@ fn are_writes(events: &[Event]) -> bool
     events.iter().all(|event| matches!(event, Event::Write(..)))
 }
 
-/// Since when an entry is frozen, or held, after one publication more, which is number `done`. A reset ends what was
+/// Returns since when an entry is frozen, or held, after one more publication, number `done`. A reset discards what was
 /// before it.
 fn since_after(before: Option<u64>, is_so: bool, are_writes: bool, done: u64) -> Option<u64>
     ensures { result ≡ since_after before is_so are_writes done }
@@ -49,9 +49,9 @@ fn count_in(since: &mut [Since], file: &RegFile, are_writes: bool, done: u64)
     }
 }
 
-/// The script after its first `count` publications, and for each entry that is frozen there the number of the
-/// publication that froze it, 0 where the script begins with it frozen: it has been frozen ever since. The same for
-/// each entry that is held, that is, frozen with all entries before it.
+/// Returns the script after its first `count` publications, and for each entry that is frozen there the number of the
+/// publication that froze it, 0 if the script begins with it frozen: it has been frozen ever since. The same for each
+/// entry that is held, that is, it and all entries before it are frozen.
 pub fn since_of<'a>(script: &'a Script<'a>, count: u64) -> (Replay<'a>, [Since; MAX_ENTRIES])
     requires legal { IsLegal script.now.start }
     requires within { count ≤ length script.now.batches }

@@ -1,4 +1,4 @@
-//! How far a long audit has come.
+//! The progress of a long audit.
 
 ghost use Rattle.std.specs.Prelude.{◌≡◌, ◌-◌, ◌≤◌, MatchResult, false, true};
 ghost use Rattle.pmp_text.specs.LongTraces.{beginning};
@@ -11,7 +11,7 @@ use crate::fault::AuditFault;
 use crate::trace_audit::Summary;
 use pmp_text::{Place, Refusal};
 
-/// Where the next piece stands, and how many accesses were refused before it.
+/// Where the next piece begins, and how many accesses were refused before it.
 #[derive(Clone, Copy)]
 pub struct Standing {
     pub place: Place,
@@ -19,7 +19,7 @@ pub struct Standing {
 }
 
 impl Standing {
-    /// Before the first piece of a trace whose first row has this number.
+    /// Returns the standing before the first piece of a trace whose first row has this number.
     pub fn beginning(first: u64) -> Standing
         ensures { result ≡ record { place = beginning first; faults = 0 } }
     {
@@ -29,7 +29,7 @@ impl Standing {
         }
     }
 
-    /// Behind the last piece: how many accesses were decided and refused. A trace without a record has no header.
+    /// Returns, after the last piece, the accesses decided and refused. A trace without a record has no header.
     pub fn end(self, first: u64) -> Result<Summary, AuditFault>
         requires { first ≤ self.place.next }
         ensures { MatchResult result

@@ -18,13 +18,13 @@ use std::io::Write;
 pub struct Summary {
     pub rows: u64,
     pub faults: u64,
-    /// The number of the first row whose start is 14 digits without `0x`: a decimal number, where rows mean
+    /// The number of the first row whose start is 14 digits without `0x`: a decimal number, though rows write
     /// hexadecimal.
     pub bare: Option<u64>,
 }
 
 impl Summary {
-    /// The summary of these rows, numbered from 1, of which so many were refused.
+    /// Returns the summary of these rows, numbered from 1, of which `faults` were refused.
     pub(crate) fn of(rows: &[Row], faults: u64) -> Summary
         ensures { result ≡ record { rows = length rows.now; faults = faults; bare = first_bare 1 rows.now } }
     {
@@ -36,7 +36,7 @@ impl Summary {
     }
 }
 
-/// The number of the first of these rows whose start is bare.
+/// Returns the number of the first of these rows whose start is bare.
 fn first_bare(rows: &[Row]) -> Option<u64>
     ensures { result ≡ first_bare 1 rows.now }
 {
@@ -51,12 +51,12 @@ fn bare_place(rows: &[Row]) -> Option<usize>
     rows.iter().position(|row| row.is_bare)
 }
 
-/// Decides each row of the trace in the register file that the publications give that it asks for, and writes a report
-/// row for each, numbered from 1.
+/// Decides each row of the trace in the register file after the publications that it asks for, and writes a report row
+/// for each, numbered from 1.
 ///
-/// The script's fault comes before any of the trace. The report is whole before its first byte is written, so every
-/// refusal but `Output` leaves the output untouched. The time grows with the events and the rows, not with their
-/// product.
+/// The script's fault comes before any of the trace. The report is complete before its first byte is written, so every
+/// refusal but `Output` leaves the output untouched. The time grows with the sum of the events and the rows, not with
+/// their product.
 #[inline(never)]
 pub fn audit<W: Write>(
     alloc: Global,

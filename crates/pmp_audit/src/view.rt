@@ -1,4 +1,4 @@
-//! What is shown of the register file after publications of a script.
+//! Views of the register file after some of a script's publications.
 
 ghost use Rattle.std.specs.Prelude.{◌≡◌, ◌≤◌, ◌++◌, List, ℕ, IfOk, IfErr, OnErr, OnOk, length};
 ghost use Rattle.pmp_core.specs.RegisterFile.{IsLegal};
@@ -21,7 +21,7 @@ use pmp_text::{
 use std::alloc::{AllocError, Global};
 use std::io::Write;
 
-/// What is shown of a register file.
+/// A view of a register file.
 #[derive(Clone, Copy)]
 pub enum View {
     Registers,
@@ -30,7 +30,7 @@ pub enum View {
     Runs,
     /// The runs, as a picture.
     Picture,
-    /// The entries, with since when each is frozen and held.
+    /// The entries, with the publications since which each is frozen and held.
     Entries,
 }
 
@@ -66,10 +66,10 @@ pub fn map_of<W: Write>(
     show(alloc, View::Runs, script, after, writer)
 }
 
-/// Writes this of the register file after the publications of the script that are done then, or after all of them where
-/// that is none.
+/// Writes this view of the register file after the script's publications done then, or after all of them if that is
+/// none.
 ///
-/// The text is whole before its first byte is written, so every refusal but `Output` leaves the output untouched.
+/// The text is complete before its first byte is written, so every refusal but `Output` leaves the output untouched.
 #[inline(never)]
 pub fn show<W: Write>(
     alloc: Global,
@@ -89,8 +89,8 @@ pub fn show<W: Write>(
     write_answer(writer, &text, shown)
 }
 
-/// Appends the text that `show` writes. The script's events are kept in the log, and `Memory` says that they have no
-/// room there, or the text none.
+/// Appends the text that `show` writes. The log keeps the script's events; `Memory` means that there is no room for
+/// them there, or none for the text.
 pub fn append_view<L: EventLog, S: Sink>(
     log: &mut L,
     view: View,
@@ -109,7 +109,7 @@ pub fn append_view<L: EventLog, S: Sink>(
     Ok(())
 }
 
-/// Appends the text that shows this after so many publications.
+/// Appends the text of this view after the given number of publications.
 fn write_view<S: Sink>(
     out: &mut S,
     view: View,

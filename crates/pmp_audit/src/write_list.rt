@@ -1,4 +1,4 @@
-//! What each event of a script does to a register.
+//! The effect of each event of a script on a register.
 
 ghost use Rattle.std.specs.Prelude.{◌≡◌, ◌+◌, ◌^◌, ◌<◌, ◌≤◌, IfOk, IfErr, OnErr, ◌++◌, length, if◌then◌else◌};
 ghost use Rattle.pmp_core.specs.RegisterFile.{RegisterFile};
@@ -19,8 +19,8 @@ use pmp_text::{EventLog, EventPlace, GrowingLog, Script, Sink, read_script, writ
 use std::alloc::{AllocError, Global};
 use std::io::Write;
 
-/// How many events a script has, and how many of them are writes that the register doesn't read as they were written;
-/// how often it expects something of a register, and how often that differs.
+/// How many events a script has, how many of them are writes that the register doesn't read back as written, how often
+/// it expects something of a register, and how often that differs.
 #[derive(Clone, Copy, Debug, Default, PartialEq, Eq)]
 pub struct WriteSummary {
     pub events: u64,
@@ -29,11 +29,11 @@ pub struct WriteSummary {
     pub differing: u64,
 }
 
-/// Writes a row for each event of the script, in their order: what it wrote, what the register read before and after,
-/// and why that isn't what was written. Behind these it writes a row for each expectation: what the register reads
-/// there, and whether that is what is expected.
+/// Writes a row for each event of the script, in order: what it wrote, what the register read before and after, and why
+/// that isn't what was written. After these it writes a row for each expectation: what the register reads there, and
+/// whether that is as expected.
 ///
-/// The text is whole before its first byte is written, so every refusal but `Output` leaves the output untouched.
+/// The text is complete before its first byte is written, so every refusal but `Output` leaves the output untouched.
 #[inline(never)]
 pub fn writes<W: Write>(
     alloc: Global,
@@ -51,8 +51,8 @@ pub fn writes<W: Write>(
     write_answer(writer, &text, summary)
 }
 
-/// Appends the text that `writes` writes. The script's events are kept in the log, and `Memory` says that they have no
-/// room there, or the text none.
+/// Appends the text that `writes` writes. The log keeps the script's events; `Memory` means that there is no room for
+/// them there, or none for the text.
 pub fn append_writes<L: EventLog, S: Sink>(
     log: &mut L,
     script: &[u8],
@@ -72,7 +72,7 @@ pub fn append_writes<L: EventLog, S: Sink>(
     Ok(summary?)
 }
 
-/// Appends the rows of a script's events, and behind them those of what it expects.
+/// Appends the rows of a script's events, and after them those of its expectations.
 fn write_script<S: Sink>(out: &mut S, script: &Script) -> Result<WriteSummary, AllocError>
     requires { IsInLimits script.now.batches }
     ensures rows { IfOk result (λ _. S.text out.new ≡ S.text out.old ++ all_rows script.now) }
@@ -89,7 +89,7 @@ fn write_script<S: Sink>(out: &mut S, script: &Script) -> Result<WriteSummary, A
     })
 }
 
-/// How many events a script has, and how many of them are writes that the register doesn't read as they were written.
+/// How many events a script has, and how many of them are writes that the register doesn't read back as written.
 #[derive(Clone, Copy, Default)]
 struct EventSummary {
     events: u64,
@@ -114,7 +114,7 @@ fn write_events<S: Sink>(out: &mut S, script: &Script) -> Result<EventSummary, A
     Ok(summary)
 }
 
-/// Appends the rows of a publication's events, and does them. What stands before them is counted already.
+/// Appends the rows of a publication's events, and executes them. What comes before them is already counted.
 fn write_publication<S: Sink>(
     out: &mut S,
     file: &mut RegFile,
@@ -146,7 +146,7 @@ fn write_publication<S: Sink>(
     Ok(summary)
 }
 
-/// Whether the event, which left this file, is a write that the register doesn't read then.
+/// Whether the event, which left this file, is a write that the register then doesn't read back.
 fn is_not_stored(after: &RegFile, event: Event) -> bool
     ensures { (file : RegisterFile) → after.now ≡ step file event → result ≡ is_not_stored file event }
 {
@@ -157,7 +157,7 @@ fn is_not_stored(after: &RegFile, event: Event) -> bool
 }
 
 impl EventSummary {
-    /// One more event.
+    /// Counts one more event.
     fn count(&mut self, is_not_stored: bool)
         requires room { self.old.events + 1 < 2 ^ 64 }
         requires within { self.old.not_stored ≤ self.old.events }

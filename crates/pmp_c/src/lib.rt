@@ -1,11 +1,11 @@
 //! The unit behind a C interface: a plain struct of numbers, which its caller owns.
 //!
-//! No function has a condition on its numbers: whatever they are, the answer is defined. The definitions that the
+//! No function has a precondition on its numbers: the result is defined for all of them. The definitions that the
 //! contracts cite are in `specs/` and in those of `pmp_core`.
 //!
-//! An access is named by its mode (0 user, 1 supervisor, 3 machine), its kind (0 fetch, 1 load, 2 store), the byte
-//! address of its first byte, and its length in bytes. An answer is a number as `pmp_map` has it, whose cause is 1,023
-//! where numbers name no access.
+//! An access is named by its mode (0 U-mode, 1 S-mode, 3 M-mode), its kind (0 fetch, 1 load, 2 store), the byte address
+//! of its first byte, and its length in bytes. An answer is a number as in `pmp_map`, whose cause is 1,023 if the
+//! numbers name no access.
 #![tactic(auto)]
 
 ghost use Rattle.std.specs.Prelude.{◌≡◌, ◌<◌, ◌≤◌, ◌↔◌, ◌⊎◌, Err, IsTrue, MatchResult, false, true};
@@ -36,7 +36,7 @@ use pmp_map::{NO_CAUSE, access_of, cause_number, mode_of, no_access, whole_cause
 pub use question::Question;
 pub use unit::Unit;
 
-/// The version of the library: 10,000 times the major number, 100 times the minor one, and the patch.
+/// Returns the version of the library: 10,000 times the major number, 100 times the minor one, and the patch.
 #[unsafe(no_mangle)]
 pub extern "C" fn tilvenka_pmp_version() -> u32
     ensures { result ≡ version }
@@ -44,7 +44,7 @@ pub extern "C" fn tilvenka_pmp_version() -> u32
     200
 }
 
-/// How many bytes a unit has, by which a caller sees that it has the same struct.
+/// Returns the size of a unit in bytes, which shows a caller whether it has the same struct.
 #[unsafe(no_mangle)]
 pub extern "C" fn tilvenka_pmp_unit_size() -> u64
     ensures { result ≡ unit_size }
@@ -52,9 +52,9 @@ pub extern "C" fn tilvenka_pmp_unit_size() -> u64
     size_of::<Unit>() as u64
 }
 
-/// Resets a unit of the hart that this number names: 16 and 64 one of so many entries (Volume II, 3.7.1), and one with
-/// bit 32 set the hart that it spells, as `SavedRegisters` has it. All registers are zero. Answers 0, or 3 where the
-/// number names no hart, and then the unit is as before.
+/// Resets a unit of the hart that this number names: 16 and 64 are harts with that many entries (Volume II, 3.7.1), and
+/// a number with bit 32 set is the hart that it encodes, as in `SavedRegisters`. All registers are zero. Returns 0, or
+/// 3 if the number names no hart, and then the unit is unchanged.
 #[unsafe(no_mangle)]
 pub extern "C" fn tilvenka_pmp_reset(unit: &mut Unit, hart: u64) -> u32
     ensures done { names_hart hart ≡ true → (result ≡ 0) × IsSetTo (reset_file (saved_hart hart)) unit.new }
@@ -70,10 +70,9 @@ pub extern "C" fn tilvenka_pmp_reset(unit: &mut Unit, hart: u64) -> u32
     }
 }
 
-/// Writes a register (Volume II, 3.7.1 and Smepmp), by its CSR number. Answers 1 for an odd `pmpcfg` and 2 for what is
-/// no PMP register of the hart: these change nothing. Else it answers the sum of 4 where a register is another than
-/// before, and then the map is to be built again, and of 256 times the reasons why this one doesn't read the value, a
-/// bit for each.
+/// Writes a register (Volume II, 3.7.1 and Smepmp), by its CSR number. Returns 1 for an odd `pmpcfg` and 2 for a number
+/// that is no PMP register of the hart: these change nothing. Otherwise returns the sum of 4 if a register changed, and
+/// then the map must be rebuilt, and of 256 times the reasons why this one doesn't read the value back, a bit for each.
 #[unsafe(no_mangle)]
 pub extern "C" fn tilvenka_pmp_write(unit: &mut Unit, csr: u32, value: u64) -> u32
     ensures { MatchResult (register_in (file_of_unit unit.old) csr)
@@ -86,9 +85,9 @@ pub extern "C" fn tilvenka_pmp_write(unit: &mut Unit, csr: u32, value: u64) -> u
     }
 }
 
-/// Writes a register as `tilvenka_pmp_write` does, and answers 8 more where some access may be decided otherwise than
-/// before: then `first` and `last` are the first and the last byte of what moved, and in every mode and kind an access
-/// with none of these is decided as before. Else they stay.
+/// Writes a register as `tilvenka_pmp_write` does, and adds 8 to the result if some access may be decided differently
+/// than before: then `first` and `last` are the first and the last byte of what moved, and in every mode and kind an
+/// access without any of these is decided as before. Otherwise they are unchanged.
 #[unsafe(no_mangle)]
 pub extern "C" fn tilvenka_pmp_write_moved(
     unit: &mut Unit,
@@ -108,7 +107,7 @@ pub extern "C" fn tilvenka_pmp_write_moved(
     }
 }
 
-/// Reads a register, by its CSR number. Answers 0, or as a write does where it doesn't.
+/// Reads a register, by its CSR number. Returns 0, or on failure the same as a write.
 #[unsafe(no_mangle)]
 pub extern "C" fn tilvenka_pmp_read(unit: &Unit, csr: u32, value: &mut u64) -> u32
     ensures status { result ≡ status_number (register_in (file_of_unit unit.now) csr) }
@@ -125,7 +124,7 @@ pub extern "C" fn tilvenka_pmp_read(unit: &Unit, csr: u32, value: &mut u64) -> u
     }
 }
 
-/// Builds the map, by which decisions are faster, where it isn't built.
+/// Builds the map, which makes decisions faster, unless it is built.
 #[unsafe(no_mangle)]
 pub extern "C" fn tilvenka_pmp_build(unit: &mut Unit)
     ensures { IsBuilt unit.old unit.new }
@@ -133,8 +132,8 @@ pub extern "C" fn tilvenka_pmp_build(unit: &mut Unit)
     unit.build();
 }
 
-/// Builds the map where it isn't built and so many questions since the last change pay for it. Answers whether it is
-/// built then.
+/// Builds the map unless it is built, if the given number of questions since the last change justifies it. Returns
+/// whether it is then built.
 #[unsafe(no_mangle)]
 pub extern "C" fn tilvenka_pmp_settle(unit: &mut Unit, questions: u64) -> bool
     ensures { IsSettled unit.old unit.new questions result }
@@ -153,7 +152,7 @@ pub extern "C" fn tilvenka_pmp_is_built(unit: &Unit) -> bool
     unit.map.runs > 0
 }
 
-/// Decides an access (Volume II, 3.7.1.3), by the map where it is built.
+/// Decides an access (Volume II, 3.7.1.3), by the map if it is built.
 #[unsafe(no_mangle)]
 pub extern "C" fn tilvenka_pmp_decide(
     unit: &Unit,
@@ -172,7 +171,7 @@ pub extern "C" fn tilvenka_pmp_decide(
     }
 }
 
-/// Decides so many accesses, each as `tilvenka_pmp_decide` does, and puts the answers beside them.
+/// Decides all these accesses, each as `tilvenka_pmp_decide` does, and stores the answers beside them.
 #[unsafe(no_mangle)]
 pub extern "C" fn tilvenka_pmp_decide_many(unit: &Unit, questions: &mut [Question])
     ensures { AllZip (IsAnswered unit.now) questions.old questions.new }
@@ -182,7 +181,7 @@ pub extern "C" fn tilvenka_pmp_decide_many(unit: &Unit, questions: &mut [Questio
     }
 }
 
-/// Decides an access by the registers, whatever the map holds.
+/// Decides an access by the registers, regardless of the map.
 #[unsafe(no_mangle)]
 pub extern "C" fn tilvenka_pmp_decide_by_registers(
     unit: &Unit,
@@ -201,8 +200,8 @@ pub extern "C" fn tilvenka_pmp_decide_by_registers(
     }
 }
 
-/// What a mode may do in a whole range of bytes, as a page: R is 1, W is 2, X is 4; 8 where no one owner has all of its
-/// bytes; 16 where the numbers name no mode, or no range that ends at or below `2^56`.
+/// Returns what a mode may do in a whole range of bytes, such as a page: R is 1, W is 2, X is 4; 8 if no one owner has
+/// all of its bytes; 16 if the numbers name no mode, or no range that ends at or below `2^56`.
 #[unsafe(no_mangle)]
 pub extern "C" fn tilvenka_pmp_rights(unit: &Unit, mode: u32, start: u64, length: u64) -> u32
     ensures rights { (named : Mode) → IsRangeOf named mode start length → IsUnit unit.now
@@ -217,9 +216,9 @@ pub extern "C" fn tilvenka_pmp_rights(unit: &Unit, mode: u32, start: u64, length
     }
 }
 
-/// All bytes round this one that have its owner: the first and the last of them, and as the answer the number of the
-/// owner's cause and 1,024 times what the mode may do there; 1,023 where the numbers name no mode or no byte below
-/// `2^56`, which leaves the others as they are.
+/// Finds all bytes around this one that have its owner: the first and the last of them. Returns the number of the
+/// owner's cause plus 1,024 times what the mode may do there, or 1,023 if the numbers name no mode or no byte below
+/// `2^56`, which leaves `first` and `last` unchanged.
 #[unsafe(no_mangle)]
 pub extern "C" fn tilvenka_pmp_run(
     unit: &Unit,
@@ -245,8 +244,8 @@ pub extern "C" fn tilvenka_pmp_run(
     }
 }
 
-/// Writes the registers out, with zeros for what the unit doesn't have. Their number names the hart, so that they can
-/// be restored.
+/// Writes the registers out, with zeros for what the unit lacks. Their number names the hart, so that they can be
+/// restored.
 #[unsafe(no_mangle)]
 pub extern "C" fn tilvenka_pmp_save_to(unit: &Unit, registers: &mut SavedRegisters)
     ensures saved { registers.new ≡ saved_registers (file_of_unit unit.now) }
@@ -256,8 +255,8 @@ pub extern "C" fn tilvenka_pmp_save_to(unit: &Unit, registers: &mut SavedRegiste
     *registers = unit.registers.canonical();
 }
 
-/// Sets the registers, whatever their numbers are: but for the hart's, every choice stands for a unit. The map is then
-/// to be built again. Answers 0, or 3 where `entries` names no hart, and then the unit is as before.
+/// Sets the registers to any numbers: except the hart's, every choice stands for a unit. The map must then be rebuilt.
+/// Returns 0, or 3 if `entries` names no hart, and then the unit is unchanged.
 #[unsafe(no_mangle)]
 pub extern "C" fn tilvenka_pmp_restore_from(unit: &mut Unit, registers: &SavedRegisters) -> u32
     ensures done { names_hart registers.now.entries ≡ true

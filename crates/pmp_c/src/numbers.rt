@@ -1,4 +1,4 @@
-//! The numbers that calls take and answer.
+//! The numbers that calls take and return.
 
 ghost use Rattle.std.specs.Prelude.{◌≡◌, ◌^◌, ◌<◌, Err};
 ghost use Rattle.pmp_core.specs.Csr.{numbered, numbered_on};
@@ -7,10 +7,10 @@ ghost use Rattle.pmp_c.specs.Status.{status_number, write_number};
 
 use pmp_core::{Csr, CsrFault, Hart, Perms, Written};
 
-/// The status of a call that is done, and by which no register is another than before.
+/// The status of a call that succeeded without changing a register.
 pub const UNCHANGED: u32 = 0;
 
-/// The status of a call that was given a number that names no hart.
+/// The status of a call whose number names no hart.
 pub const NO_HART: u32 = 3;
 
 /// The bit of a write that changed a register.
@@ -19,10 +19,10 @@ const CHANGED: u32 = 4;
 /// The bit of a write that moved bytes.
 pub const MOVED: u32 = 8;
 
-/// What the reasons of a write are multiplied by.
+/// The factor by which the reasons of a write are multiplied.
 const REASONS: u32 = 256;
 
-/// What a write came to.
+/// Returns the status of a write.
 #[inline(always)]
 pub fn write_status(written: &Written) -> u32
     ensures number { result ≡ write_number written.now }
@@ -36,7 +36,7 @@ pub fn write_status(written: &Written) -> u32
     }
 }
 
-/// The status of a call that didn't.
+/// Returns the status of a call that found no register.
 pub fn refusal_status(fault: CsrFault) -> u32
     ensures { result ≡ status_number (Err fault) }
 {
@@ -46,7 +46,7 @@ pub fn refusal_status(fault: CsrFault) -> u32
     }
 }
 
-/// The register of RV64 with this CSR number.
+/// Returns the RV64 register with this CSR number.
 pub fn csr_of(number: u32) -> Result<Csr, CsrFault>
     ensures { result ≡ numbered number }
 {
@@ -56,7 +56,7 @@ pub fn csr_of(number: u32) -> Result<Csr, CsrFault>
     }
 }
 
-/// The register of this hart with this CSR number.
+/// Returns the register of this hart with this CSR number.
 #[inline(always)]
 pub fn csr_on(hart: Hart, number: u32) -> Result<Csr, CsrFault>
     ensures { result ≡ numbered_on hart.is_rv32 number }
@@ -67,13 +67,13 @@ pub fn csr_on(hart: Hart, number: u32) -> Result<Csr, CsrFault>
     }
 }
 
-/// The rights in a range of whose bytes no one owner has all.
+/// The rights in a range whose bytes don't all have one owner.
 const MIXED: u32 = 8;
 
-/// The rights where the numbers name no range.
+/// The rights if the numbers name no range.
 pub const NO_RANGE: u32 = 16;
 
-/// R is 1, W is 2, X is 4.
+/// Returns the rights as a number: R is 1, W is 2, X is 4.
 #[inline(always)]
 pub fn rights_number(rights: Option<Perms>) -> u32
     ensures { result ≡ rights_number rights }

@@ -1,11 +1,11 @@
-//! Many accesses at once.
+//! Many accesses in one call.
 
 ghost use Rattle.pmp_c.specs.Questions.{IsAnswered};
 
 use crate::tilvenka_pmp_decide;
 use crate::unit::Unit;
 
-/// An access by its numbers, and the number that it is answered with.
+/// An access as numbers, and the number of its answer.
 #[repr(C)]
 #[derive(Clone, Copy)]
 pub struct Question {
@@ -17,7 +17,7 @@ pub struct Question {
 }
 
 impl Question {
-    /// Answers it.
+    /// Decides it and stores the answer.
     #[inline(always)]
     pub fn decide(&mut self, unit: &Unit)
         ensures { IsAnswered unit.now self.old self.new }

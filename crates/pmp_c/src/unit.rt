@@ -16,16 +16,16 @@ use crate::numbers::{MOVED, UNCHANGED, csr_of, csr_on, refusal_status, write_sta
 use pmp_core::{Access, Csr, CsrFault, Hart, Mode, Perms, Registers, SavedRegisters, Written};
 use pmp_map::{Run, Tables, answer_number, rights_in, run_around};
 
-/// A unit. All zero it is one of sixteen entries after reset, whose map isn't built.
+/// A unit. If all its bytes are zero it is one of sixteen entries after reset, whose map isn't built.
 #[repr(C)]
 #[derive(Clone, Copy, Debug, PartialEq, Eq)]
 pub struct Unit {
     pub registers: SavedRegisters,
-    /// Empty from a write until it is built.
+    /// Empty from a write until it is rebuilt.
     pub map: Tables,
 }
 
-/// The register of this hart with this CSR number.
+/// Returns the register of this hart with this CSR number.
 #[inline(always)]
 fn register_on(hart: Hart, number: u32) -> Result<Csr, CsrFault>
     ensures { result ≡ found_on hart (numbered_on hart.is_rv32 number) }
@@ -43,7 +43,7 @@ impl Unit {
         Registers::of(&self.registers).hart()
     }
 
-    /// The register with this CSR number where RV64 has it, and so each hart, but for `mseccfg`.
+    /// Returns the register with this CSR number if RV64 has it, and so every hart, except perhaps `mseccfg`.
     #[inline(always)]
     pub fn usual_register(&self, number: u32) -> Option<Csr>
         ensures { IfSome result (λ csr. register_in (file_of_unit self.now) number ≡ Ok csr) }
@@ -55,7 +55,7 @@ impl Unit {
         }
     }
 
-    /// What a write came to that its registers have taken. If one is another than before, the map isn't built.
+    /// Returns the status of a write that its registers have taken. If one changed, the map isn't built.
     #[inline(always)]
     pub fn noted(&mut self, written: &Written) -> u32
         ensures number { result ≡ write_number written.now }
@@ -70,7 +70,7 @@ impl Unit {
         write_status(written)
     }
 
-    /// Writes the register. If one is another than before, the map isn't built.
+    /// Writes the register. If one changed, the map isn't built.
     #[inline(always)]
     pub fn write(&mut self, csr: Csr, value: u64) -> u32
         ensures { IsWriteAnswer self.old self.new csr value result }
@@ -110,7 +110,7 @@ impl Unit {
         }
     }
 
-    /// The same of the register with this CSR number, if its hart has it.
+    /// Does the same for the register with this CSR number, if its hart has it.
     #[cold]
     #[inline(never)]
     pub fn write_moved_on_hart(
@@ -131,7 +131,7 @@ impl Unit {
         }
     }
 
-    /// The registers of a standard hart, and which of them has this CSR number.
+    /// Returns the registers of a standard hart, and which of them has this CSR number.
     #[inline(always)]
     pub fn standard_register(&self, number: u32) -> Option<(Registers<'_>, Csr)>
         ensures { let file = file_of_unit self.now in
@@ -163,7 +163,7 @@ impl Unit {
         }
     }
 
-    /// Builds the map, where it isn't built.
+    /// Builds the map, unless it is built.
     #[inline(never)]
     pub fn build(&mut self)
         ensures { IsBuilt self.old self.new }
@@ -173,7 +173,7 @@ impl Unit {
         }
     }
 
-    /// The answer by the registers, without the map.
+    /// Returns the answer by the registers, without the map.
     #[cold]
     #[inline(never)]
     pub fn answer_by_registers(&self, access: &Access) -> u16
@@ -182,7 +182,7 @@ impl Unit {
         answer_number(access, &self.registers.decide(access))
     }
 
-    /// The answer, by the map where it is built.
+    /// Returns the answer, by the map if it is built.
     #[inline(always)]
     pub fn answer(&self, access: &Access) -> u16
         ensures { IsUnit self.now → result ≡ answer_number access.now (decision_of (file_of_unit self.now) access.now) }
@@ -194,7 +194,7 @@ impl Unit {
         }
     }
 
-    /// What the mode may do in the whole range, by the registers.
+    /// Returns what the mode may do in the whole range, by the registers.
     #[cold]
     #[inline(never)]
     fn rights_by_registers(&self, mode: Mode, start: u64, length: u64) -> Option<Perms>
@@ -208,8 +208,8 @@ impl Unit {
         }
     }
 
-    /// What the mode may do in the whole range, by the map where it is built, or none where no one owner has all of its
-    /// bytes.
+    /// Returns what the mode may do in the whole range, by the map if it is built, or none if no one owner has all of
+    /// its bytes.
     #[inline(always)]
     pub fn rights(&self, mode: Mode, start: u64, length: u64) -> Option<Perms>
         requires full { 0 < length }
@@ -223,7 +223,7 @@ impl Unit {
         }
     }
 
-    /// All bytes round this one that have its owner, by the map where it is built.
+    /// Returns all bytes around this one that have its owner, by the map if it is built.
     pub fn run(&self, byte: u64) -> Run
         requires { byte < ADDRESS_LIMIT }
         ensures { IsUnit self.now → IsRunAround (file_of_unit self.now) byte result }

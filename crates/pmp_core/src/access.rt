@@ -1,4 +1,4 @@
-//! What the unit is asked to decide.
+//! Accesses to physical memory: what the unit decides.
 
 ghost use Rattle.std.specs.Prelude.{◌≡◌, ◌+◌, ◌<◌, ◌≤◌, IfOk, IfErr, None, Some};
 ghost use Rattle.pmp_core.specs.declared.access.TheConstants.{ADDRESS_LIMIT, MAX_LENGTH};
@@ -7,11 +7,11 @@ ghost use Rattle.pmp_core.specs.declared.access.TheConstants.{ADDRESS_LIMIT, MAX
 /// (Volume II, 3.1.6.3). Its number is its level (1.2).
 #[derive(Clone, Copy, Debug, PartialEq, Eq)]
 pub enum Mode {
-    /// Machine mode.
+    /// M-mode.
     M = 3,
-    /// Supervisor mode.
+    /// S-mode.
     S = 1,
-    /// User mode.
+    /// U-mode.
     U = 0,
 }
 
@@ -23,13 +23,13 @@ pub enum Kind {
     Store,
 }
 
-/// The most bytes that one access has.
+/// The greatest length of one access, in bytes.
 pub const MAX_LENGTH: u64 = 4096;
 
-/// Physical addresses have 56 bits: no byte address reaches this.
+/// One past the highest byte address: physical addresses have 56 bits.
 pub const ADDRESS_LIMIT: u64 = 1 << 56;
 
-/// One access to physical memory, perhaps misaligned. Its ghost fields say that its length is lawful and that it
+/// One access to physical memory, which may be misaligned. Its ghost fields say that its length is valid and that it
 /// ends inside the address space; `Access::new` tests both.
 #[derive(Clone, Copy, Debug, PartialEq, Eq)]
 pub struct Access {
@@ -37,14 +37,14 @@ pub struct Access {
     pub kind: Kind,
     /// The byte address of its first byte.
     pub start: u64,
-    /// How many bytes it has.
+    /// Its length in bytes.
     pub length: u64,
     pub ghost not_empty: { 0 < length },
     pub ghost not_long: { length ≤ MAX_LENGTH },
     pub ghost inside: { start + length ≤ ADDRESS_LIMIT },
 }
 
-/// Why numbers make no access.
+/// Why numbers describe no access.
 #[derive(Clone, Copy, Debug, PartialEq, Eq)]
 pub enum AccessFault {
     /// The length is 0 or above 4,096 bytes.
@@ -56,7 +56,7 @@ pub enum AccessFault {
 impl Access {
     ghost use Rattle.pmp_core.specs.Access.{access_fault, IsAccess};
 
-    /// The access of `length` bytes from byte address `start` on. The length is tested first.
+    /// Returns the access of `length` bytes from byte address `start` on. The length is tested first.
     #[inline]
     pub fn new(mode: Mode, kind: Kind, start: u64, length: u64) -> Result<Access, AccessFault>
         ensures made { IfOk result (λ access. (access_fault start length ≡ None)

@@ -44,7 +44,7 @@ impl Model for Configuration {
 }
 
 impl Configuration {
-    /// Decodes a byte, of which bits 6 and 5 are ignored.
+    /// Decodes a byte, ignoring bits 6 and 5.
     #[inline(always)]
     pub fn from_byte(byte: u8) -> Configuration
         ensures { result ≡ configuration_of byte }
@@ -54,7 +54,7 @@ impl Configuration {
         }
     }
 
-    /// The byte that stands for it.
+    /// Returns the byte that encodes it.
     #[inline(always)]
     pub fn byte(self) -> u8
         ensures { result ≡ byte_of self }
@@ -62,7 +62,7 @@ impl Configuration {
         self.byte
     }
 
-    /// L: the rule binds machine mode too, and writes leave the entry as it is.
+    /// L: the rule applies to M-mode too, and writes leave the entry as it is.
     #[inline(always)]
     pub fn is_locked(&self) -> bool
         ensures { result ≡ self.now.locked }
@@ -107,7 +107,7 @@ impl Configuration {
         self.byte % 2 == 1
     }
 
-    /// Whether it has W without R, which is reserved where MML is 0.
+    /// Whether it has W without R, which is reserved while MML is 0.
     #[inline(always)]
     pub fn is_reserved(&self) -> bool
         ensures { result ≡ is_reserved self.now }
@@ -115,7 +115,7 @@ impl Configuration {
         self.byte % 4 == 2
     }
 
-    /// A reserved combination of R and W as it is stored.
+    /// Returns it as it is stored: without rights if its R and W are a reserved combination.
     #[inline(always)]
     pub fn without_reserved(self) -> Configuration
         ensures { result ≡ without_reserved self }
@@ -129,7 +129,7 @@ impl Configuration {
         }
     }
 
-    /// As it is stored: OFF in place of NA4 where the grain is above four bytes.
+    /// Returns it as it is stored: OFF instead of NA4 if the grain is above four bytes.
     #[inline(always)]
     pub fn selectable(self, hart: Hart) -> Configuration
         ensures { result ≡ selectable hart.grain self }

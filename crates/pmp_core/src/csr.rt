@@ -3,8 +3,8 @@
 ghost use Rattle.std.specs.Prelude.{◌≡◌};
 ghost use Rattle.pmp_core.specs.Csr.{numbered, numbered_on};
 
-/// A PMP register (Volume II, 3.7.1), or `mseccfg` (Smepmp). One that the hart lacks, as RV64 lacks `Cfg(3)`, reads zero,
-/// and writing it changes nothing.
+/// A PMP register (Volume II, 3.7.1), or `mseccfg` (Smepmp). A register that the hart lacks, such as `Cfg(3)` on RV64,
+/// reads zero, and writing it changes nothing.
 #[derive(Clone, Copy, Debug, PartialEq, Eq)]
 pub enum Csr {
     /// `pmpcfg` with this number: eight configuration bytes, or four on RV32.
@@ -27,14 +27,14 @@ pub enum CsrFault {
 }
 
 impl Csr {
-    /// The register of RV64 with this CSR number.
+    /// Returns the RV64 register with this CSR number.
     pub fn from_number(number: u16) -> Result<Csr, CsrFault>
         ensures { result ≡ numbered number }
     {
         Csr::on(false, number)
     }
 
-    /// The register with this CSR number where XLEN is 32, or 64.
+    /// Returns the register with this CSR number for an XLEN of 32 or 64.
     #[inline(always)]
     pub fn on(is_rv32: bool, number: u16) -> Result<Csr, CsrFault>
         ensures { result ≡ numbered_on is_rv32 number }

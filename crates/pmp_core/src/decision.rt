@@ -26,7 +26,7 @@ pub enum Cause {
     NoMatch,
 }
 
-/// The answer to an access.
+/// The decision on an access.
 #[derive(Clone, Copy, Debug, PartialEq, Eq, Default)]
 pub struct Decision {
     pub allowed: bool,
@@ -34,7 +34,7 @@ pub struct Decision {
 }
 
 impl Kind {
-    /// The exception code of an access fault of this kind (Volume II, 3.1.15).
+    /// Returns the exception code of an access fault of this kind (Volume II, 3.1.15).
     pub fn access_fault_code(self) -> u8
         ensures code { result ≡ access_fault_code self }
         ensures most { result ≤ 7 }
@@ -47,7 +47,7 @@ impl Kind {
     }
 }
 
-/// The exception code of a refused access, none where it is allowed (Volume II, 3.1.15).
+/// Returns the exception code of a refused access, or none if it is allowed (Volume II, 3.1.15).
 pub fn fault_code(access: &Access, decision: &Decision) -> Option<u8>
     ensures { result ≡ fault_of access.now decision.now }
 {
@@ -59,8 +59,8 @@ pub fn fault_code(access: &Access, decision: &Decision) -> Option<u8>
 }
 
 impl<'a> Registers<'a> {
-    /// What decides the bytes from `start` up to `end`, without `end`: the first entry that matches one of them, if it
-    /// matches all (Volume II, 3.7.1.3).
+    /// Returns what decides the bytes from `start` up to, but not including, `end`: the first entry that matches one of
+    /// them, by its rule if it matches them all (Volume II, 3.7.1.3).
     #[inline(always)]
     pub fn cause(&self, start: u64, end: u64) -> Cause
         ensures cause { result ≡ cause_of self.now start end }
@@ -80,7 +80,7 @@ impl<'a> Registers<'a> {
         Cause::NoMatch
     }
 
-    /// What the mode may do where this decides.
+    /// Returns what the mode may do if this decides.
     #[inline(always)]
     pub fn rights_by(&self, cause: Cause, mode: Mode) -> Perms
         requires { (i : ℕ) → cause ≡ Cause.Rule i → i < length self.now.entries }
@@ -119,7 +119,7 @@ impl SavedRegisters {
         }
     }
 
-    /// The same on any hart, out of the way of the other pass.
+    /// Does the same on any hart, out of line.
     #[cold]
     #[inline(never)]
     fn decide_on_any(&self, access: &Access) -> Decision

@@ -11,40 +11,40 @@ use crate::register_write::ENTRIES_PER_CFG;
 use crate::size::{MAX_ENTRIES, Size};
 use std::marker::Model;
 
-/// The greatest G, of a grain of 4096 bytes.
+/// The greatest G, for a grain of 4096 bytes.
 pub const MAX_GRAIN: u8 = 10;
 
-/// The fewest bits that a physical address has, on RV32.
+/// The smallest number of physical address bits, on RV32.
 pub const MIN_ADDRESS_BITS: u8 = 32;
 
-/// The most bits that a physical address of RV32 has, and the fewest of RV64.
+/// The greatest number of physical address bits on RV32, and the smallest on RV64.
 pub const MID_ADDRESS_BITS: u8 = 34;
 
-/// The most bits that a physical address has, on RV64.
+/// The greatest number of physical address bits, on RV64.
 pub const MAX_ADDRESS_BITS: u8 = 56;
 
-/// What a hart has of physical memory protection (Volume II, 3.7.1), if there is such a hart: `Hart::new` says so.
+/// The PMP parameters of a hart (Volume II, 3.7.1); `Hart::new` tests whether there is such a hart.
 #[derive(Clone, Copy, Debug, PartialEq, Eq)]
 pub struct Profile {
-    /// How many entries there are, 0 to 64.
+    /// The number of entries, 0 to 64.
     pub entries: u8,
     /// The manual's G, 0 to 10: the grain is `2^(G+2)` bytes.
     pub grain: u8,
-    /// How many bits a physical address has, 34 to 56, or on RV32 32 to 34.
+    /// The number of physical address bits, 34 to 56, or 32 to 34 on RV32.
     pub address_bits: u8,
-    /// Whether there is `mseccfg`, with Smepmp.
+    /// Whether it has Smepmp, and with it `mseccfg`.
     pub has_smepmp: bool,
     /// Whether XLEN is 32, and not 64.
     pub is_rv32: bool,
 }
 
-/// A hart as it is from the time that it is made on. A contract sees it as its profile.
+/// A hart, which never changes once it is made. A contract sees it as its profile.
 #[derive(Clone, Copy, Debug, PartialEq, Eq)]
 pub struct Hart {
     profile: Profile,
 }
 
-/// Why there is no such hart.
+/// Why a profile describes no hart.
 #[derive(Clone, Copy, Debug, PartialEq, Eq)]
 pub enum HartFault {
     /// There are more than 64 entries.
@@ -75,7 +75,7 @@ impl Hart {
     ghost use Rattle.pmp_core.specs.Csr.{numbered_on};
     ghost use Rattle.pmp_core.specs.Hart.{bytes_in, hart_fault, profile_of, word_addresses};
 
-    /// The hart of this profile. Entries, grain and address bits are tested in this order.
+    /// Returns the hart of this profile. Entries, grain and address bits are tested in this order.
     pub fn new(profile: Profile) -> Result<Hart, HartFault>
         ensures made { IfOk result (λ hart. (hart_fault profile ≡ None) × (hart ≡ profile)) }
         ensures refused { IfErr result (λ fault. hart_fault profile ≡ Some fault) }
@@ -97,7 +97,7 @@ impl Hart {
         Ok(Hart { profile })
     }
 
-    /// The hart of a unit of this size, of RV64 with the finest grain, the widest addresses and Smepmp.
+    /// Returns the RV64 hart of this size, with the finest grain, the widest addresses and Smepmp.
     #[inline(always)]
     pub fn of(size: Size) -> Hart
         ensures { result ≡ profile_of size }
@@ -112,7 +112,7 @@ impl Hart {
         Hart { profile }
     }
 
-    /// What it has.
+    /// Returns its profile.
     #[inline(always)]
     pub fn profile(&self) -> Profile
         ensures { result ≡ self.now }
@@ -120,8 +120,8 @@ impl Hart {
         self.profile
     }
 
-    /// Its register with this CSR number. A hart without Smepmp has no `mseccfg` and no `mseccfgh`, but their numbers
-    /// name them all the same.
+    /// Returns its register with this CSR number. A hart without Smepmp has no `mseccfg` and no `mseccfgh`, but their
+    /// numbers name them all the same.
     #[inline(always)]
     pub fn csr(&self, number: u16) -> Result<Csr, CsrFault>
         ensures { result ≡ numbered_on self.now.is_rv32 number }
@@ -129,7 +129,7 @@ impl Hart {
         Csr::on(self.profile.is_rv32, number)
     }
 
-    /// How many bytes of entries the configuration register has: the first is that of entry `4 * register`.
+    /// Returns how many entries have a byte in the configuration register: the first is entry `4 * register`.
     #[inline(always)]
     pub fn bytes_in(&self, register: u8) -> usize
         ensures bytes { result ≡ bytes_in self.now register }
@@ -145,7 +145,7 @@ impl Hart {
         }
     }
 
-    /// Whether `of` gives it. RV32 has no addresses of so many bits.
+    /// Whether `of` returns this hart. RV32 has no addresses that wide.
     fn is_usual(&self) -> bool
         ensures { result ≡ is_usual self.now }
     {
@@ -155,9 +155,9 @@ impl Hart {
         is_one_of_two && profile.grain == 0 && is_widest && profile.has_smepmp
     }
 
-    /// The hart as a number: of one that `of` gives how many entries there are; of another that in bits 7 to 0, how
-    /// many bits an address has in bits 15 to 8, whether there is Smepmp in bit 16, whether it is RV32 in bit 17, and G
-    /// in bits 31 to 24, with bit 32 set.
+    /// Returns the hart as a number: if `of` returns the hart, the number of its entries; otherwise the entries in bits
+    /// 7 to 0, the address bits in bits 15 to 8, whether it has Smepmp in bit 16, whether it is RV32 in bit 17, G in
+    /// bits 31 to 24, and bit 32 set.
     pub fn number(&self) -> u64
         ensures { result ≡ hart_number self.now }
     {
@@ -178,8 +178,8 @@ impl Hart {
         }
     }
 
-    /// The standard hart of a number with bit 32 clear: 64 is that of sixty-four entries, and any other number that of
-    /// sixteen. What is inlined into a branch that has it is compiled for these two.
+    /// Returns the standard hart of a number with bit 32 clear: for 64 the one of sixty-four entries, and for any other
+    /// number the one of sixteen. Code inlined into a branch that has it is compiled for these two.
     #[inline(always)]
     pub(crate) fn standard(number: u64) -> Option<Hart>
         ensures { MatchOption result (number / 2 ^ 32 ≡ 1) (λ hart. hart ≡ saved_hart number) }
@@ -193,8 +193,8 @@ impl Hart {
         }
     }
 
-    /// The hart that a number spells; for 64, which spells none, that of sixty-four entries which `of` gives, and for
-    /// every other number that spells none that of sixteen.
+    /// Returns the hart that a number encodes. If it encodes none, returns what `of` returns for sixty-four entries if
+    /// the number is 64, and for sixteen otherwise.
     #[inline(always)]
     pub fn from_number(number: u64) -> Hart
         ensures { result ≡ saved_hart number }
@@ -208,7 +208,7 @@ impl Hart {
         }
     }
 
-    /// The hart that a number names: 16 and 64 are those that `of` gives, and another is the one that it spells.
+    /// Returns the hart that a number names: 16 and 64 are those that `of` returns, any other the one it encodes.
     pub fn named(number: u64) -> Option<Hart>
         ensures { MatchOption result (names_hart number ≡ false)
             (λ hart. (names_hart number ≡ true) × (hart ≡ saved_hart number)) }
@@ -222,7 +222,7 @@ impl Hart {
         Hart::spelled(number)
     }
 
-    /// The hart that a number with bit 32 spells, if there is such a hart.
+    /// Returns the hart that a number with bit 32 encodes, if there is such a hart.
     #[inline(always)]
     fn spelled(number: u64) -> Option<Hart>
         requires { number / 2 ^ 32 ≡ 1 }
@@ -245,7 +245,7 @@ impl Hart {
         }
     }
 
-    /// How many entries there are.
+    /// Returns the number of entries.
     #[inline]
     pub fn entries(&self) -> u8
         ensures count { result ≡ self.now.entries }
@@ -254,7 +254,7 @@ impl Hart {
         self.profile.entries
     }
 
-    /// The manual's G: the grain is `2^(G+2)` bytes.
+    /// Returns the manual's G: the grain is `2^(G+2)` bytes.
     #[inline]
     pub fn grain(&self) -> u8
         ensures grain { result ≡ self.now.grain }
@@ -263,7 +263,7 @@ impl Hart {
         self.profile.grain
     }
 
-    /// The address as a top of range sees it, without the bits below the grain.
+    /// Returns the address as TOR uses it, without the bits below the grain.
     #[inline(always)]
     pub fn tor_address(&self, address: u64) -> u64
         ensures { result ≡ tor_address self.now.grain address }
@@ -271,7 +271,7 @@ impl Hart {
         address >> self.profile.grain << self.profile.grain
     }
 
-    /// The address as a naturally aligned power of two sees it: with all ones below the grain.
+    /// Returns the address as NAPOT uses it, with all ones below the grain.
     #[inline(always)]
     pub fn napot_address(&self, address: u64) -> u64
         ensures seen { result ≡ napot_address self.now.grain address }
@@ -281,7 +281,7 @@ impl Hart {
         (address >> ones << ones) + ((1 << ones) - 1)
     }
 
-    /// What the address register of an entry reads.
+    /// Returns what the address register of an entry reads.
     #[inline]
     pub fn read_address(&self, matching: AddressMatching, address: u64) -> u64
         ensures { result ≡ read_address self.now.grain matching address }
@@ -293,7 +293,7 @@ impl Hart {
         }
     }
 
-    /// How many bits a physical address has.
+    /// Returns the number of physical address bits.
     #[inline]
     pub fn address_bits(&self) -> u8
         ensures { result ≡ self.now.address_bits }
@@ -301,7 +301,7 @@ impl Hart {
         self.profile.address_bits
     }
 
-    /// Whether there is `mseccfg`, with Smepmp.
+    /// Whether it has Smepmp, and with it `mseccfg`.
     #[inline]
     pub fn has_smepmp(&self) -> bool
         ensures { result ≡ self.now.has_smepmp }
@@ -309,7 +309,7 @@ impl Hart {
         self.profile.has_smepmp
     }
 
-    /// How many word addresses there are: an address register keeps the numbers below.
+    /// Returns the number of word addresses: an address register keeps the numbers below it.
     #[inline(always)]
     pub fn word_addresses(&self) -> u64
         ensures { result ≡ word_addresses self.now }

@@ -5,7 +5,7 @@
 pub enum Lock {
     /// The lock bit is clear: writes change the entry.
     Open,
-    /// The lock bit is set, but rule-locking bypass is on: writes change the entry.
+    /// The lock bit is set, but so is RLB: writes change the entry.
     Bypassed,
     /// The entry is frozen: until a reset, writes leave it as it is.
     Frozen,

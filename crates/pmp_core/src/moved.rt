@@ -23,7 +23,7 @@ const ALL: Span = Span {
     last: ADDRESS_LIMIT - 1,
 };
 
-/// The least span that has both.
+/// Returns the smallest span that contains both.
 fn joined(one: Option<Span>, other: Option<Span>) -> Option<Span>
     ensures { result ≡ joined one other }
 {
@@ -36,7 +36,7 @@ fn joined(one: Option<Span>, other: Option<Span>) -> Option<Span>
     }
 }
 
-/// Both ranges, if they aren't one.
+/// Returns the span of both ranges, unless they are equal.
 #[inline(always)]
 fn moved_between(now: &ByteRange, before: &ByteRange) -> Option<Span>
     ensures { result ≡ moved_between before.now now.now }
@@ -48,7 +48,7 @@ fn moved_between(now: &ByteRange, before: &ByteRange) -> Option<Span>
 }
 
 impl<'a> Registers<'a> {
-    /// Whether nothing was written of the entry, nor to the address register before it.
+    /// Whether neither the entry nor the address register before it was changed.
     #[inline(always)]
     fn keeps(&self, before: &Registers<'_>, index: usize) -> bool
         requires now { index < length self.now.entries }
@@ -64,7 +64,7 @@ impl<'a> Registers<'a> {
             }
     }
 
-    /// What the entry matches now or matched before, if it isn't the same.
+    /// Returns what the entry matches now or matched before, unless it is the same.
     #[inline(always)]
     fn moved_at(&self, before: &Registers<'_>, index: usize) -> Option<Span>
         requires now { index < length self.now.entries }
@@ -85,7 +85,7 @@ impl<'a> Registers<'a> {
         }
     }
 
-    /// What so many entries match now or matched before, from the first on, of those that aren't the same.
+    /// Returns what `count` entries from the first on match now or matched before, without those that are the same.
     #[inline(always)]
     fn moved_among(&self, before: &Registers<'_>, first: usize, count: usize) -> Option<Span>
         requires end { first + count < 2 ^ 64 }
@@ -107,7 +107,7 @@ impl<'a> Registers<'a> {
         moved
     }
 
-    /// What the entries match now or matched before that a write to this register moved, or all bytes.
+    /// Returns what the entries moved by a write to this register match now or matched before, or all bytes.
     #[inline(always)]
     fn moved_by(&self, before: &Registers<'_>, csr: Csr) -> Option<Span>
         requires { (value : ℕ) × (self.now ≡ written before.now csr value) }
@@ -124,7 +124,7 @@ impl<'a> Registers<'a> {
         }
     }
 
-    /// All bytes where `mseccfg` is another.
+    /// Returns all bytes if `mseccfg` changed.
     #[inline(always)]
     #[tactic(auto, unfolding(crate::specs::Moved::moved_by))]
     fn moved_by_fields(&self, before: &Registers<'_>) -> Option<Span>
@@ -136,8 +136,8 @@ impl<'a> Registers<'a> {
         Some(ALL)
     }
 
-    /// The same as `moved_since` where one write to this register lies between: it looks at the entries that the
-    /// register may move, and at no other.
+    /// Returns the same as `moved_since` if one write to this register lies between: it looks only at the entries that
+    /// the register may move.
     #[inline(always)]
     pub fn moved_by_write(&self, before: &Registers<'_>, csr: Csr) -> Option<Span>
         requires { (value : ℕ) × (self.now ≡ written before.now csr value) }
@@ -148,9 +148,9 @@ impl<'a> Registers<'a> {
         self.moved_by(before, csr)
     }
 
-    /// The first and the last byte that may be decided otherwise than by the registers before: from the lowest to the
-    /// highest of those that an entry that changed matches or matched, or all bytes where `mseccfg` or the hart is
-    /// another. None where nothing changed.
+    /// Returns the first and the last byte that may be decided differently than by the registers before: the span of
+    /// all bytes that a changed entry matches or matched, or all bytes if `mseccfg` or the hart differs. None if
+    /// nothing changed.
     pub fn moved_since(&self, before: &Registers<'_>) -> Option<Span>
         ensures beside { AreAlikeBeside before.now self.now result }
         ensures none { before.now ≡ self.now → result ≡ None }
@@ -168,7 +168,7 @@ impl<'a> Registers<'a> {
 }
 
 impl<'a> Registers<'a> {
-    /// Where the entry matches, if there is such an entry.
+    /// Returns the range that the entry matches, if there is such an entry.
     #[inline(always)]
     #[tactic(auto, using(crate::proofs::Matches::range_past))]
     fn range_if_any(&self, index: usize) -> ByteRange
@@ -183,7 +183,7 @@ impl<'a> Registers<'a> {
 }
 
 impl SavedRegisters {
-    /// Writes an address register, which moves two ranges at most.
+    /// Writes an address register, which moves at most two ranges.
     #[inline(always)]
     fn write_address_moved(
         &mut self,
@@ -211,7 +211,7 @@ impl SavedRegisters {
         (written, moved)
     }
 
-    /// Writes a configuration register, and compares its entries with those before.
+    /// Writes a configuration register, and compares its entries with the former ones.
     #[inline(always)]
     fn write_configurations_moved(
         &mut self,
@@ -250,9 +250,9 @@ impl SavedRegisters {
         (written, moved)
     }
 
-    /// Writes a register, and says too which bytes may be decided otherwise than before, as `Registers::moved_since`
-    /// does: of the entries that the register may move. None where nothing changed, or where those that changed match
-    /// no byte before and after. What a standard hart's entries have is written in place.
+    /// Writes a register, and also returns which bytes may be decided differently than before, as
+    /// `Registers::moved_since` does, for the entries that the register may move. None if nothing changed, or if those
+    /// that changed match no byte before and after. The entries of a standard hart are written in place.
     pub fn write_moved(&mut self, csr: Csr, value: u64) -> (Written, Option<Span>)
         ensures written { IsWritten self.old self.new csr value result.0 }
         ensures moved { result.1 ≡ moved_by (restored_file self.old) (restored_file self.new) csr }

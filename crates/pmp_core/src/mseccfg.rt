@@ -39,26 +39,26 @@ impl Flags for Mseccfg {
     }
 }
 
-/// What `mseccfg` says of the unit.
+/// The fields of `mseccfg`.
 #[derive(Clone, Copy, PartialEq, Eq)]
 pub struct MseccfgFields {
-    /// MML: rules bind machine mode by another table, and it executes by locked rules alone.
+    /// MML: rules apply to M-mode by another table, and it executes only by locked rules.
     pub mml: bool,
-    /// MMWP: machine mode may do nothing where no entry matches.
+    /// MMWP: M-mode may do nothing if no entry matches.
     pub mmwp: bool,
-    /// RLB: locks bind no write.
+    /// RLB: locks don't restrict writes.
     pub rlb: bool,
 }
 
 impl MseccfgFields {
-    /// What reset leaves.
+    /// The fields after reset.
     pub const RESET: MseccfgFields = MseccfgFields {
         mml: false,
         mmwp: false,
         rlb: false,
     };
 
-    /// The register's value.
+    /// Returns the register's value.
     pub fn value(self) -> u64
         ensures { result ≡ mseccfg_value self }
     {
@@ -69,7 +69,7 @@ impl MseccfgFields {
         set.bits()
     }
 
-    /// The bits of a value.
+    /// Returns the fields of a value.
     pub fn from_value(value: u64) -> MseccfgFields
         ensures { result ≡ mseccfg_fields value }
     {

@@ -50,7 +50,7 @@ impl Perms {
 
     pub const RWX: Perms = Perms(7);
 
-    /// The set of these rights.
+    /// Returns the set of these rights.
     #[inline(always)]
     pub fn of(read: bool, write: bool, execute: bool) -> Perms
         ensures { let rights : Rights = record { read = read; write = write; execute = execute } in
@@ -59,14 +59,14 @@ impl Perms {
         Perms(u8::from(read) + 2 * u8::from(write) + 4 * u8::from(execute))
     }
 
-    /// R is 1, W is 2, X is 4.
+    /// Returns the sum of its rights: R is 1, W is 2, X is 4.
     pub fn number(self) -> u8
         ensures { result ≡ self.0 }
     {
         self.0
     }
 
-    /// The right that an access of this kind needs.
+    /// Returns the right that an access of this kind needs.
     pub fn of_kind(kind: Kind) -> Perms
         ensures { result ≡ right_of kind }
     {

@@ -1,4 +1,4 @@
-//! Where an entry matches, as a range of byte addresses.
+//! The bytes that an entry matches, as a range of byte addresses.
 
 ghost use Rattle.std.specs.Prelude.{◌≡◌, ◌<◌, ◌↔◌, IsTrue, length};
 ghost use Rattle.pmp_core.specs.Matching.{low_address};
@@ -9,7 +9,7 @@ use crate::configuration::AddressMatching;
 use crate::hart::Hart;
 use crate::registers::Registers;
 
-/// The byte addresses from `start` up to `end`, without `end`: none where `end` isn't above `start`.
+/// The byte addresses from `start` up to, but not including, `end`: none if `end` isn't above `start`.
 #[derive(Clone, Copy, Debug, PartialEq, Eq)]
 pub struct ByteRange {
     pub start: u64,
@@ -25,7 +25,7 @@ impl ByteRange {
         self.start <= byte && byte < self.end
     }
 
-    /// Whether it has one of the bytes from `start` up to `end`, without `end`.
+    /// Whether it has one of the bytes from `start` up to, but not including, `end`.
     pub fn is_touched(&self, start: u64, end: u64) -> bool
         ensures { result ≡ is_touched start end self.now }
     {
@@ -40,7 +40,7 @@ impl ByteRange {
     }
 }
 
-/// The naturally aligned power of two that the word address spells.
+/// Returns the naturally aligned power of two that the word address encodes.
 fn napot_range(address: u64) -> ByteRange
     requires { address < WORD_ADDRESSES }
     ensures { result ≡ napot_range address }
@@ -53,7 +53,7 @@ fn napot_range(address: u64) -> ByteRange
     }
 }
 
-/// The range of an entry in this mode with this address, after one with the address `low`.
+/// Returns the range of an entry with this mode and address, if the address before it is `low`.
 pub fn range_by(hart: Hart, matching: AddressMatching, low: u64, address: u64) -> ByteRange
     requires low { low < WORD_ADDRESSES }
     requires address { address < WORD_ADDRESSES }
@@ -74,7 +74,7 @@ pub fn range_by(hart: Hart, matching: AddressMatching, low: u64, address: u64) -
 }
 
 impl<'a> Registers<'a> {
-    /// The address register before the entry's own, and 0 for the first entry.
+    /// Returns the address register before the entry's own, and 0 for the first entry.
     #[inline(always)]
     #[tactic(auto, using(crate::proofs::Places::low_rules))]
     fn low_address(&self, index: usize) -> u64
@@ -88,7 +88,7 @@ impl<'a> Registers<'a> {
         }
     }
 
-    /// Where the entry matches.
+    /// Returns the range that the entry matches.
     #[inline(always)]
     pub fn range(&self, index: usize) -> ByteRange
         requires { index < length self.now.entries }

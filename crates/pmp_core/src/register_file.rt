@@ -1,4 +1,4 @@
-//! The register file: the registers of a unit, and what resets and writes make of them.
+//! The register file: the registers of a unit, and how resets and writes change them.
 
 ghost use Rattle.std.specs.Prelude.{◌≡◌, ◌<◌, ◌≤◌, ◌↔◌, IsTrue, length, fold};
 ghost use Rattle.pmp_core.specs.RegisterFile.{IsLegal, reset_file, is_frozen};
@@ -24,7 +24,7 @@ use crate::saved_registers::SavedRegisters;
 use crate::size::{MAX_ENTRIES, Size};
 use std::marker::Model;
 
-/// How many entries a unit of `Size::Sixteen` has.
+/// The number of entries of a unit of `Size::Sixteen`.
 pub const ENTRIES: usize = 16;
 
 /// The registers of one unit. A contract sees them as a `RegisterFile` of `specs/`.
@@ -51,22 +51,22 @@ impl Model for RegFile {
 }
 
 impl RegFile {
-    /// The register file that reset leaves in a unit of sixteen entries: all registers are zero.
+    /// Returns the register file of a unit of sixteen entries after reset: all registers are zero.
     pub fn reset() -> RegFile
         ensures { result ≡ reset_file (profile_of Sixteen) }
     {
         RegFile::reset_of(Size::Sixteen)
     }
 
-    /// The register file that reset leaves in a unit of this size, with the widest addresses and Smepmp: all registers
-    /// are zero.
+    /// Returns the register file of a unit of this size after reset, with the widest addresses and Smepmp: all
+    /// registers are zero.
     pub fn reset_of(size: Size) -> RegFile
         ensures { result ≡ reset_file (profile_of size) }
     {
         RegFile::reset_on(Hart::of(size))
     }
 
-    /// The register file that reset leaves on this hart: all registers are zero.
+    /// Returns the register file of this hart after reset: all registers are zero.
     pub fn reset_on(hart: Hart) -> RegFile
         ensures { result ≡ reset_file hart }
     {
@@ -75,7 +75,7 @@ impl RegFile {
         }
     }
 
-    /// The unit's registers as plain numbers.
+    /// Returns the unit's registers as plain numbers.
     pub fn save(&self) -> SavedRegisters
         ensures saved { result ≡ saved_registers self.now }
         ensures restored { restored_file result ≡ self.now }
@@ -83,9 +83,9 @@ impl RegFile {
         self.numbers
     }
 
-    /// The unit that the numbers stand for, whatever they are. Bits that a register doesn't have are left out, and so
-    /// are registers of entries that the unit doesn't have; where MML is clear, an entry with W and without R has no
-    /// rights, as a write stores it (Volume II, 3.7.1).
+    /// Returns the unit that any such numbers stand for. Bits that a register lacks are left out, and so are registers
+    /// of entries that the unit lacks; if MML is clear, an entry with W and without R has no rights, as a write stores
+    /// it (Volume II, 3.7.1).
     pub fn restore(saved: &SavedRegisters) -> RegFile
         ensures { result ≡ restored_file saved.now }
     {
@@ -94,7 +94,7 @@ impl RegFile {
         }
     }
 
-    /// The registers, for what is read of one entry or asked of one write.
+    /// Returns the registers, for questions about one entry or one write.
     pub fn registers(&self) -> Registers<'_>
         ensures same { result ≡ self.now }
         ensures legal { IsLegal self.now }
@@ -102,14 +102,14 @@ impl RegFile {
         Registers::of(&self.numbers)
     }
 
-    /// The hart that has these registers.
+    /// Returns the hart that has these registers.
     pub fn hart(&self) -> Hart
         ensures { result ≡ self.now.profile }
     {
         self.registers().hart()
     }
 
-    /// How many entries the hart has.
+    /// Returns how many entries the hart has.
     pub fn entries(&self) -> u8
         ensures count { result ≡ length self.now.entries }
         ensures most { result ≤ MAX_ENTRIES }
@@ -143,7 +143,7 @@ impl RegFile {
         }
     }
 
-    /// Takes events in order.
+    /// Takes the events in order.
     pub fn run_events(&mut self, events: &[Event])
         ensures steps { self.new ≡ fold step self.old events.now }
         ensures entries { length self.new.entries ≡ length self.old.entries }
@@ -153,7 +153,7 @@ impl RegFile {
         }
     }
 
-    /// The value of a register.
+    /// Returns the value of a register.
     pub fn read(&self, csr: Csr) -> u64
         ensures { result ≡ register_value self.now csr }
     {
@@ -168,8 +168,7 @@ impl RegFile {
         self.registers().decide(access)
     }
 
-    /// Whether the entry is frozen: its lock bit is set and rule-locking bypass is off, so that writes leave it as it
-    /// is.
+    /// Whether the entry is frozen: its lock bit is set and RLB is clear, so that writes leave it as it is.
     pub fn is_locked(&self, entry: u8) -> bool
         requires { entry < length self.now.entries }
         ensures { result ≡ is_frozen self.now entry }
@@ -177,7 +176,7 @@ impl RegFile {
         self.registers().is_frozen(usize::from(entry))
     }
 
-    /// What the entry's rule allows the mode, where the entry matches every byte of an access.
+    /// Returns what the entry's rule allows the mode, if the entry matches every byte of an access.
     pub fn rights(&self, entry: u8, mode: Mode) -> Perms
         requires { entry < length self.now.entries }
         ensures rights { result ≡ perms_of (rights self.now entry mode) }
@@ -186,7 +185,7 @@ impl RegFile {
         self.registers().rights(usize::from(entry), mode)
     }
 
-    /// What the mode may do where no entry matches any byte of an access.
+    /// Returns what the mode may do if no entry matches any byte of an access.
     pub fn default_rights(&self, mode: Mode) -> Perms
         ensures rights { result ≡ perms_of (default_rights self.now mode) }
         ensures legal { IsLegal self.now }

@@ -1,4 +1,4 @@
-//! What a write to a register leaves.
+//! The effect of a write to a register.
 
 ghost use Rattle.std.specs.Prelude.{◌≡◌, ◌≢◌, ◌+◌, ◌*◌, ◌<◌, ◌≤◌, true, false, length};
 ghost use Rattle.pmp_core.specs.declared.csr.Csr.{Csr};
@@ -19,13 +19,13 @@ use crate::rights::is_barred;
 use crate::saved_registers::SavedRegisters;
 use crate::write_reasons::Reasons;
 
-/// How many word addresses there are at most: an address register has no more than 54 bits.
+/// The greatest number of word addresses: an address register has at most 54 bits.
 pub const WORD_ADDRESSES: u64 = 1 << 54;
 
-/// How many entries a configuration register has bytes of at most.
+/// The greatest number of entries that a configuration register has bytes of.
 pub const ENTRIES_PER_CFG: usize = 8;
 
-/// What a write came to.
+/// The outcome of a write.
 #[derive(Clone, Copy, Debug, PartialEq, Eq)]
 pub struct Written {
     pub is_changed: bool,
@@ -33,7 +33,7 @@ pub struct Written {
     pub reasons: Reasons,
 }
 
-/// What a byte leaves that is written over a configuration that isn't frozen, on a hart where every mode can be chosen.
+/// Returns what is stored over a configuration that isn't frozen, on a hart that has every address-matching mode.
 fn admitted(old: Configuration, new: Configuration, mseccfg: &MseccfgFields) -> Configuration
     ensures { result ≡ admitted mseccfg.now.mml mseccfg.now.rlb old new }
 {
@@ -46,7 +46,7 @@ fn admitted(old: Configuration, new: Configuration, mseccfg: &MseccfgFields) -> 
     }
 }
 
-/// What a byte leaves that is written over a configuration.
+/// Returns what is stored if a byte is written over a configuration.
 fn stored_over(hart: Hart, old: Configuration, byte: u8, mseccfg: &MseccfgFields) -> Configuration
     ensures { result ≡ stored_over hart.grain mseccfg.now.mml mseccfg.now.rlb old byte }
 {
@@ -57,8 +57,8 @@ fn stored_over(hart: Hart, old: Configuration, byte: u8, mseccfg: &MseccfgFields
 }
 
 impl<'a> Registers<'a> {
-    /// The byte at a place of the configuration register once this byte is written there, and zero where it holds none
-    /// of an entry.
+    /// Returns the byte at a place of the configuration register once this byte is written there, and zero if the place
+    /// holds no entry's byte.
     #[inline(always)]
     fn byte_after(&self, register: u8, place: usize, byte: u8) -> u8
         requires { place < ENTRIES_PER_CFG }
@@ -75,7 +75,7 @@ impl<'a> Registers<'a> {
         }
     }
 
-    /// What the configuration register reads once the value is written to it, the lowest byte for the lowest entry.
+    /// Returns what the configuration register reads after a write of the value, the lowest byte for the lowest entry.
     #[inline(always)]
     fn configurations_after(&self, register: u8, value: u64) -> u64
         ensures { let csr = Csr.Cfg register in result ≡ register_value (written self.now csr value) csr }
@@ -87,7 +87,7 @@ impl<'a> Registers<'a> {
         u64::from_le_bytes(bytes)
     }
 
-    /// What the address register reads once the value is written to it.
+    /// Returns what the address register reads after a write of the value.
     #[inline(always)]
     fn address_after(&self, register: u8, value: u64) -> u64
         ensures { let csr = Csr.Addr register in result ≡ register_value (written self.now csr value) csr }
@@ -102,8 +102,8 @@ impl<'a> Registers<'a> {
         self.reads(index, value % self.hart().word_addresses())
     }
 
-    /// What `mseccfg` says once the value is written to it, if the hart has it: MML and MMWP are sticky, and RLB doesn't
-    /// rise over a lock.
+    /// Returns the fields of `mseccfg` after a write of the value, if the hart has it: MML and MMWP are sticky, and a
+    /// lock keeps RLB from being set.
     fn fields_after(&self, value: u64) -> MseccfgFields
         ensures { result ≡ security_written self.now value }
     {
@@ -179,7 +179,7 @@ impl SavedRegisters {
         }
     }
 
-    /// Writes `mseccfg`. Once MML is set a byte may stand for other rights, so each becomes the one that is stored.
+    /// Writes `mseccfg`. Once MML is set a byte may mean other rights, so each becomes the one that is stored.
     #[inline(always)]
     fn write_mseccfg(&mut self, hart: Hart, value: u64) -> Written
         requires { hart ≡ hart_in self.old }
@@ -218,7 +218,7 @@ impl SavedRegisters {
         }
     }
 
-    /// Writes a register of this hart, which is known where this is inlined.
+    /// Writes a register of this hart, which is known wherever this is inlined.
     #[inline(always)]
     fn write_on(&mut self, hart: Hart, csr: Csr, value: u64) -> Written
         requires { hart ≡ hart_in self.old }
@@ -232,7 +232,7 @@ impl SavedRegisters {
         }
     }
 
-    /// The same, compiled for a standard hart and for any.
+    /// Does the same, compiled both for a standard hart and for any hart.
     #[inline(never)]
     fn write_apart(&mut self, csr: Csr, value: u64) -> Written
         ensures { IsWritten self.old self.new csr value result }

@@ -1,4 +1,4 @@
-//! A unit's registers as they are read: a view of the plain numbers that keep them.
+//! A unit's registers for reading: a view of the plain numbers that keep them.
 
 ghost use Rattle.std.specs.Prelude.{◌≡◌, ◌+◌, ◌*◌, ◌/◌, ◌^◌, ◌<◌, ◌≤◌, IsTrue, MatchOption, length};
 ghost use Rattle.pmp_core.specs.declared.csr.Csr.{Csr};
@@ -26,7 +26,7 @@ use std::marker::Model;
 #[derive(Drop)]
 pub struct Registers<'a> {
     numbers: &'a SavedRegisters,
-    /// The one that `numbers.entries` stands for, which is decoded once.
+    /// The hart that `numbers.entries` stands for, decoded once.
     hart: Hart,
 }
 
@@ -44,7 +44,7 @@ impl<'a> Model for Registers<'a> {
 }
 
 impl<'a> Registers<'a> {
-    /// The registers that these numbers keep, whatever they are.
+    /// Returns the registers that these numbers keep; any numbers will do.
     #[inline(always)]
     pub fn of(numbers: &'a SavedRegisters) -> Registers<'a>
         ensures { result ≡ restored_file numbers.now }
@@ -52,7 +52,7 @@ impl<'a> Registers<'a> {
         Registers::with(numbers, Hart::from_number(numbers.entries))
     }
 
-    /// The same on their hart, which is decoded.
+    /// Returns the same for the hart of the numbers, already decoded.
     #[inline(always)]
     pub(crate) fn with(numbers: &'a SavedRegisters, hart: Hart) -> Registers<'a>
         requires { hart ≡ hart_in numbers.now }
@@ -61,7 +61,7 @@ impl<'a> Registers<'a> {
         Registers { numbers, hart }
     }
 
-    /// The same on a standard hart, else none. What is inlined into a branch that has it is compiled for such harts.
+    /// Returns the same on a standard hart, else none. A branch that has it is compiled for such harts.
     #[inline(always)]
     pub fn on_standard(numbers: &'a SavedRegisters) -> Option<Registers<'a>>
         ensures { MatchOption result (numbers.now.entries / 2 ^ 32 ≡ 1) (λ registers. registers
@@ -71,7 +71,7 @@ impl<'a> Registers<'a> {
         Some(Registers::with(numbers, hart))
     }
 
-    /// The hart that has them.
+    /// Returns the hart that has them.
     #[inline(always)]
     pub fn hart(&self) -> Hart
         ensures { result ≡ self.now.profile }
@@ -79,7 +79,7 @@ impl<'a> Registers<'a> {
         self.hart
     }
 
-    /// How many entries there are.
+    /// Returns the number of entries.
     #[inline(always)]
     pub fn count(&self) -> usize
         ensures count { result ≡ length self.now.entries }
@@ -89,7 +89,7 @@ impl<'a> Registers<'a> {
         usize::from(self.hart.entries())
     }
 
-    /// What `mseccfg` says, if the hart has it.
+    /// Returns the fields of `mseccfg`, if the hart has it.
     #[inline(always)]
     pub(crate) fn fields(&self) -> MseccfgFields
         ensures { result ≡ self.now.mseccfg }
@@ -101,7 +101,7 @@ impl<'a> Registers<'a> {
         }
     }
 
-    /// The entry's configuration.
+    /// Returns the entry's configuration.
     #[inline(always)]
     pub(crate) fn configuration(&self, index: usize) -> Configuration
         requires { index < length self.now.entries }
@@ -116,7 +116,7 @@ impl<'a> Registers<'a> {
         admitted.selectable(self.hart)
     }
 
-    /// The entry's configuration, but for a reserved combination of R and W, which it keeps.
+    /// Returns the entry's configuration, with a reserved combination of R and W left in.
     #[inline(always)]
     fn raw(&self, index: usize) -> Configuration
         requires { index < length self.now.entries }
@@ -126,7 +126,7 @@ impl<'a> Registers<'a> {
         Configuration::from_byte(self.numbers.configurations[index]).selectable(self.hart)
     }
 
-    /// How the entry's address register is read.
+    /// Returns how the entry's address register is read.
     #[inline(always)]
     pub fn matching(&self, index: usize) -> AddressMatching
         requires { index < length self.now.entries }
@@ -135,8 +135,8 @@ impl<'a> Registers<'a> {
         self.raw(index).matching()
     }
 
-    /// The word address that the entry's register keeps. What it reads has zeros or ones below the grain, by the
-    /// entry's mode.
+    /// Returns the word address that the entry's register keeps. The bits below the grain read as zeros or ones,
+    /// depending on the entry's mode.
     #[inline(always)]
     pub fn address(&self, index: usize) -> u64
         requires { index < length self.now.entries }
@@ -147,7 +147,7 @@ impl<'a> Registers<'a> {
         self.numbers.addresses[index] % words
     }
 
-    /// Whether the entry is kept as the same numbers in both. On one hart, with one `mseccfg`, it is the same then.
+    /// Whether both keep the entry as the same numbers. With the same hart and `mseccfg`, the entry is then the same.
     #[inline(always)]
     pub(crate) fn has_same_numbers(&self, other: &Registers<'_>, index: usize) -> bool
         requires here { index < length self.now.entries }
@@ -160,7 +160,7 @@ impl<'a> Registers<'a> {
             && self.numbers.configurations[index] == other.numbers.configurations[index]
     }
 
-    /// Whether the entry's address register keeps the same number in both. On one hart it is the same address then.
+    /// Whether both keep the same number for the entry's address register. On one hart it is then the same address.
     #[inline(always)]
     pub(crate) fn has_same_address(&self, other: &Registers<'_>, index: usize) -> bool
         requires here { index < length self.now.entries }
@@ -172,7 +172,7 @@ impl<'a> Registers<'a> {
         self.numbers.addresses[index] == other.numbers.addresses[index]
     }
 
-    /// The byte at a place of the configuration register, the lowest at 0, and zero where it holds none of an entry.
+    /// Returns the byte at a place of the configuration register, the lowest at 0, and zero if it is no entry's byte.
     #[inline(always)]
     fn byte_at(&self, register: u8, place: usize) -> u8
         requires { place < ENTRIES_PER_CFG }
@@ -186,7 +186,7 @@ impl<'a> Registers<'a> {
         }
     }
 
-    /// The bytes of the entries that the configuration register holds, if there are any.
+    /// Returns the bytes of the entries that the configuration register holds, if there are any.
     #[inline(always)]
     fn configuration_word(&self, register: u8) -> u64
         ensures { result ≡ configuration_word self.now register }
@@ -198,7 +198,7 @@ impl<'a> Registers<'a> {
         u64::from_le_bytes(bytes)
     }
 
-    /// What the entry's address register reads where it keeps this address.
+    /// Returns what the entry's address register reads if it keeps this address.
     #[inline(always)]
     pub(crate) fn reads(&self, index: usize, address: u64) -> u64
         requires { index < length self.now.entries }
@@ -212,7 +212,7 @@ impl<'a> Registers<'a> {
         }
     }
 
-    /// The value of a register.
+    /// Returns the value of a register.
     #[inline(always)]
     pub fn read(&self, csr: Csr) -> u64
         ensures { result ≡ register_value self.now csr }
@@ -228,7 +228,7 @@ impl<'a> Registers<'a> {
         }
     }
 
-    /// Whether the entry is frozen: its lock bit is set and rule-locking bypass is off.
+    /// Whether the entry is frozen: its lock bit is set and RLB is clear.
     #[inline(always)]
     pub(crate) fn is_frozen(&self, index: usize) -> bool
         requires { index < length self.now.entries }
@@ -237,8 +237,8 @@ impl<'a> Registers<'a> {
         self.raw(index).is_locked() && !self.fields().rlb
     }
 
-    /// Whether the entry and all before it are frozen. Then no write changes what they refuse, nor what they allow while
-    /// MML stays as it is. An entry that is frozen alone keeps its bytes, but an open one before it may still take them.
+    /// Whether the entry and all before it are frozen. Then no write changes what they refuse, nor what they allow
+    /// while MML stays as it is. An entry frozen alone keeps its bytes, but an open one before it may still take them.
     pub fn is_held(&self, index: usize) -> bool
         requires { index < length self.now.entries }
         ensures { result ≡ is_held self.now index }
@@ -247,7 +247,7 @@ impl<'a> Registers<'a> {
         (0..index + 1).all(|entry| self.is_frozen(entry))
     }
 
-    /// How the entry is locked.
+    /// Returns how the entry is locked.
     pub fn lock(&self, index: usize) -> Lock
         requires { index < length self.now.entries }
         ensures { result ≡ lock_of self.now index }
@@ -261,7 +261,7 @@ impl<'a> Registers<'a> {
         }
     }
 
-    /// Whether writes leave the entry's address register as it is: the entry is frozen, or the next one is and is TOR.
+    /// Whether writes leave the entry's address register as it is: the entry, or the next if it is TOR, is frozen.
     #[inline(always)]
     pub fn is_address_frozen(&self, index: usize) -> bool
         requires { index < length self.now.entries }
@@ -275,7 +275,7 @@ impl<'a> Registers<'a> {
         next < count && self.is_frozen(next) && self.matching(next) == AddressMatching::Tor
     }
 
-    /// Whether some entry is locked, be it off or not.
+    /// Whether some entry is locked, even one that is OFF.
     pub(crate) fn is_any_locked(&self) -> bool
         ensures { result ≡ is_any_locked self.now.entries }
     {
@@ -289,7 +289,7 @@ impl<'a> Registers<'a> {
 }
 
 impl SavedRegisters {
-    /// The value of a register. That of an address register is read in place, which takes little room.
+    /// Returns the value of a register. That of an address register is read in place, which takes little room.
     #[inline(always)]
     pub fn read(&self, csr: Csr) -> u64
         ensures { result ≡ register_value (restored_file self.now) csr }
@@ -300,7 +300,7 @@ impl SavedRegisters {
         }
     }
 
-    /// The same, compiled for a standard hart and for any.
+    /// Does the same, compiled both for a standard hart and for any hart.
     #[inline(always)]
     fn read_here(&self, csr: Csr) -> u64
         ensures { result ≡ register_value (restored_file self.now) csr }

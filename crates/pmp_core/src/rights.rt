@@ -11,7 +11,7 @@ use crate::perms::Perms;
 use crate::registers::Registers;
 use bitflags::Flags;
 
-/// The bits R, W and X themselves.
+/// Returns the bits R, W and X themselves.
 fn bits(configuration: &Configuration) -> Perms
     ensures { result ≡ perms_of (bits_of configuration.now) }
 {
@@ -22,10 +22,10 @@ fn bits(configuration: &Configuration) -> Perms
     )
 }
 
-/// What the rule allows under machine-mode lockdown.
+/// Returns what the rule allows while MML is set.
 ///
-/// W without R marks a region that the modes share, and so does everything set at once. Every other rule holds for
-/// machine mode alone where it is locked, and for the other modes alone where it isn't.
+/// W without R marks a region that the modes share, and so does a rule with L, R, W and X all set. Any other rule
+/// applies only to M-mode if it is locked, and only to the other modes if it isn't.
 fn lockdown_rights(configuration: &Configuration, mode: Mode) -> Perms
     ensures { result ≡ perms_of (lockdown_rights configuration.now.locked configuration.now.read configuration.now.write
         configuration.now.execute mode) }
@@ -44,7 +44,7 @@ fn lockdown_rights(configuration: &Configuration, mode: Mode) -> Perms
     }
 }
 
-/// What the rule allows the mode.
+/// Returns what the rule allows the mode.
 fn rule_rights(configuration: &Configuration, mode: Mode, mseccfg: &MseccfgFields) -> Perms
     ensures { result ≡ perms_of (rule_rights mseccfg.now.mml configuration.now mode) }
 {
@@ -57,7 +57,7 @@ fn rule_rights(configuration: &Configuration, mode: Mode, mseccfg: &MseccfgField
     }
 }
 
-/// What the mode may do where no entry matches any byte, and the hart has entries or not.
+/// Returns what the mode may do if no entry matches any byte, for a hart with or without entries.
 fn default_rights_by(has_entries: bool, mode: Mode, mseccfg: &MseccfgFields) -> Perms
     ensures { result ≡ perms_of (default_rights_by has_entries mseccfg.now.mml mseccfg.now.mmwp mode) }
 {
@@ -69,7 +69,7 @@ fn default_rights_by(has_entries: bool, mode: Mode, mseccfg: &MseccfgFields) -> 
     }
 }
 
-/// Whether a rule is one that lockdown lets no write add: locked, and machine mode may execute by it.
+/// Whether a rule is one that MML lets no write add: it is locked, and lets M-mode execute.
 pub fn is_barred(configuration: &Configuration) -> bool
     ensures { result ≡ is_barred configuration.now.locked configuration.now.read configuration.now.write
         configuration.now.execute }
@@ -78,7 +78,7 @@ pub fn is_barred(configuration: &Configuration) -> bool
 }
 
 impl<'a> Registers<'a> {
-    /// What the entry's rule allows the mode, where the entry matches every byte of an access.
+    /// Returns what the entry's rule allows the mode, if the entry matches every byte of an access.
     #[inline]
     pub fn rights(&self, index: usize, mode: Mode) -> Perms
         requires { index < length self.now.entries }
@@ -87,7 +87,7 @@ impl<'a> Registers<'a> {
         rule_rights(&self.configuration(index), mode, &self.fields())
     }
 
-    /// What the mode may do where no entry matches any byte of an access.
+    /// Returns what the mode may do if no entry matches any byte of an access.
     #[inline]
     pub fn default_rights(&self, mode: Mode) -> Perms
         ensures { result ≡ perms_of (default_rights self.now mode) }

@@ -9,7 +9,7 @@ use crate::registers::Registers;
 use crate::size::MAX_ENTRIES;
 
 /// The registers of a unit, for a snapshot or for memory that isn't Rattle's. `RegFile::restore` and `Registers::of`
-/// take every choice of numbers.
+/// accept any numbers.
 #[repr(C)]
 #[derive(Clone, Copy, Debug, PartialEq, Eq)]
 pub struct SavedRegisters {
@@ -19,13 +19,13 @@ pub struct SavedRegisters {
     pub configurations: [u8; MAX_ENTRIES],
     /// `mseccfg`.
     pub mseccfg: u64,
-    /// The hart, as `Hart::number` gives it: 64 is sixty-four entries, and every other number that spells no hart
+    /// The hart, as `Hart::number` returns it: 64 is sixty-four entries, and any other number that encodes no hart is
     /// sixteen, with the widest addresses and Smepmp.
     pub entries: u64,
 }
 
 impl SavedRegisters {
-    /// The registers that reset leaves on this hart.
+    /// Returns the registers of this hart after reset.
     pub fn reset_on(hart: Hart) -> SavedRegisters
         ensures saved { result ≡ saved_registers (reset_file hart) }
         ensures restored { restored_file result ≡ reset_file hart }
@@ -38,7 +38,7 @@ impl SavedRegisters {
         }
     }
 
-    /// The numbers that the same registers are saved as: each as it is stored, and zeros past the last entry.
+    /// Returns the numbers that the same registers are saved as: each as it is stored, and zeros past the last entry.
     pub fn canonical(&self) -> SavedRegisters
         ensures saved { result ≡ saved_registers (restored_file self.now) }
         ensures restored { restored_file result ≡ restored_file self.now }

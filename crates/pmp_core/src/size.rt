@@ -1,12 +1,12 @@
-//! How many entries a unit has.
+//! The number of entries of a unit.
 
 ghost use Rattle.std.specs.Prelude.{◌≡◌};
 ghost use Rattle.pmp_core.specs.Hart.{count_of};
 
-/// The most entries that a unit has.
+/// The greatest number of entries of a unit.
 pub const MAX_ENTRIES: usize = 64;
 
-/// How many entries a unit has, from the time that it is made on (Volume II, 3.7.1).
+/// The number of entries of a unit, which never changes once it is made (Volume II, 3.7.1).
 #[derive(Clone, Copy, Debug, PartialEq, Eq)]
 pub enum Size {
     Sixteen,
@@ -14,7 +14,7 @@ pub enum Size {
 }
 
 impl Size {
-    /// The number of entries.
+    /// Returns the number of entries.
     pub fn entries(self) -> u8
         ensures { result ≡ count_of self }
     {

@@ -1,4 +1,4 @@
-//! The bytes that an entry matches, by the first and the last of them.
+//! The bytes that an entry matches, by their first and last address.
 
 ghost use Rattle.std.specs.Prelude.{◌≡◌, ◌<◌, length};
 ghost use Rattle.pmp_core.specs.Span.{IsSpan, span_in, span_of};
@@ -7,7 +7,7 @@ use crate::access::ADDRESS_LIMIT;
 use crate::range::ByteRange;
 use crate::registers::Registers;
 
-/// Bytes side by side, at least one, all below `2^56`.
+/// At least one byte, contiguous, all below `2^56`.
 #[derive(Clone, Copy, Debug, PartialEq, Eq)]
 pub struct Span {
     /// The byte address of the first byte.
@@ -16,7 +16,7 @@ pub struct Span {
     pub last: u64,
 }
 
-/// The bytes of a range that have an address.
+/// Returns the bytes of a range that have an address.
 pub fn span_in(range: &ByteRange) -> Option<Span>
     ensures { result ≡ span_in range.now }
 {
@@ -32,7 +32,7 @@ pub fn span_in(range: &ByteRange) -> Option<Span>
 }
 
 impl<'a> Registers<'a> {
-    /// The first and the last byte that the entry matches, if it matches any.
+    /// Returns the first and the last byte that the entry matches, if it matches any.
     pub fn span(&self, index: usize) -> Option<Span>
         requires { index < length self.now.entries }
         ensures by_bytes { IsSpan self.now index result }

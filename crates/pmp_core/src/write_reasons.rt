@@ -37,14 +37,14 @@ pub enum WriteReason {
     Tor,
     /// The value has W without R for an entry, and MML is 0.
     Reserved,
-    /// The value would add a locked rule by which machine mode executes, MML is 1 and RLB is 0.
+    /// The value would add a locked rule by which M-mode executes, while MML is 1 and RLB is 0.
     Lockdown,
     /// The value would clear MML or MMWP.
     Sticky,
     /// The value would set RLB, and some entry is locked.
     Bypass,
-    /// The grain is above four bytes, and the value chooses NA4, or has address bits below the grain that read
-    /// otherwise.
+    /// The grain is above four bytes, and the value selects NA4, or has address bits below the grain that read
+    /// differently.
     Grain,
 }
 
@@ -68,7 +68,7 @@ impl WriteReason {
 pub struct Reasons(u16);
 
 impl Reasons {
-    /// A bit for each reason, the lowest for the first of `WriteReason::ALL`.
+    /// Returns a bit for each reason, the lowest for the first of `WriteReason::ALL`.
     pub fn bits(self) -> u16
         ensures { result ≡ self.0 }
     {
@@ -76,7 +76,7 @@ impl Reasons {
     }
 }
 
-/// The byte for an entry in a value of a configuration register of the hart, where the register has one.
+/// Returns the byte for an entry in a value of a configuration register of the hart, if the register has one.
 fn byte_for(hart: Hart, register: u8, value: u64, index: usize) -> Option<u8>
     ensures { result ≡ (if holds_byte_of hart register index then Some (byte_for register value index) else None) }
 {
@@ -88,7 +88,7 @@ fn byte_for(hart: Hart, register: u8, value: u64, index: usize) -> Option<u8>
     }
 }
 
-/// The entries of the hart of which the register holds the configuration or the address.
+/// Returns the entries of the hart whose configuration or address the register holds.
 fn entries_of(hart: Hart, csr: Csr) -> Range<usize>
     ensures within { result.end ≤ hart.entries }
     ensures others { (i : ℕ) → i < hart.entries → (result.start ≤ i → result.end ≤ i) → holds hart csr i ≡ false }
@@ -107,7 +107,7 @@ fn entries_of(hart: Hart, csr: Csr) -> Range<usize>
     }
 }
 
-/// How many bytes of the configuration register are those of entries of the hart. They are its lowest ones.
+/// Returns how many bytes of the configuration register belong to entries of the hart. They are its lowest ones.
 fn bytes_there(hart: Hart, register: u8) -> usize
     ensures there { (j : ℕ) → j < ENTRIES_PER_CFG → (holds_byte_of hart register (4 * register + j)
         && nat_lt (4 * register + j) hart.entries) ≡ nat_lt j result }
@@ -134,7 +134,7 @@ fn has_absent_byte(hart: Hart, register: u8, value: u64) -> bool
     has_some(&bytes[bytes_there(hart, register)..])
 }
 
-/// Whether one of the bytes has bit 6 or 5, which no configuration has.
+/// Whether one of the bytes has bit 6 or 5 set, which no configuration has.
 fn has_bit_6_or_5(bytes: &[u8]) -> bool
     ensures { result ≡ list_any has_bit_6_or_5 bytes.now }
 {
@@ -142,7 +142,7 @@ fn has_bit_6_or_5(bytes: &[u8]) -> bool
 }
 
 impl<'a> Registers<'a> {
-    /// Whether the register has the entry's byte or address, and reads another than the value has.
+    /// Whether the register has the entry's byte or address, and reads differently from the value.
     fn is_changed(&self, csr: Csr, value: u64, index: usize) -> bool
         requires { index < length self.now.entries }
         ensures { result ≡ is_changed self.now csr value index }
@@ -176,7 +176,7 @@ impl<'a> Registers<'a> {
         fields.mml && !fields.rlb && is_barred(&Configuration::from_byte(byte))
     }
 
-    /// Whether a byte chooses NA4, which a coarse grain doesn't have.
+    /// Whether a byte selects NA4, which a coarse grain lacks.
     fn adds_na4(&self, byte: u8) -> bool
         ensures { result ≡ (nat_lt 0 self.now.profile.grain && is_na4 (configuration_of byte).matching) }
     {
@@ -303,7 +303,7 @@ impl<'a> Registers<'a> {
         }
     }
 
-    /// Why the register wouldn't read the value, if it were written now.
+    /// Returns why the register wouldn't read the value, if it were written now.
     #[cold]
     #[inline(never)]
     pub fn reasons(&self, csr: Csr, value: u64) -> Reasons
@@ -318,7 +318,7 @@ impl<'a> Registers<'a> {
         Reasons(bits)
     }
 
-    /// The same where the register reads this once the value is written, which it mostly does as it was written.
+    /// Does the same, given what the register reads after the write, which is mostly the value as written.
     #[inline(always)]
     pub(crate) fn reasons_where(&self, csr: Csr, value: u64, reads: u64) -> Reasons
         requires { reads ≡ register_value (written self.now csr value) csr }

@@ -1,4 +1,4 @@
-//! What two harts tell each other: how much hart 0 has published, and how far hart 1 is behind a remote fence.
+//! Communication of two harts: how much hart 0 has published, and how far hart 1 is in a remote fence.
 
 ghost use Rattle.std.specs.Prelude.{◌≡◌, ◌≤◌, IfOk};
 
@@ -15,13 +15,13 @@ pub struct Fence {
     learnt: AtomicU64,
 }
 
-/// Hart 1 has learnt of so many events. Only a wait for that makes one.
+/// Evidence that hart 1 has learnt of `events` events. Only a wait for that creates one.
 #[derive(Drop)]
 pub struct Fenced {
     events: u64,
 }
 
-/// Waits until the number is no less, or hart 1 is gone.
+/// Waits until the number is at least `least`, or hart 1 is gone.
 fn wait_for<R: Wait>(
     rt: &R,
     number: &AtomicU64,
@@ -53,7 +53,7 @@ impl Fence {
         }
     }
 
-    /// Shows that so many events are published, and waits until hart 1 has loaded since. A machine needn't.
+    /// Shows that `events` events are published, and waits until hart 1 has loaded after that. A machine needn't.
     pub fn show<R: Wait>(
         &self,
         rt: &R,
@@ -71,17 +71,17 @@ impl Fence {
         self.shown.load(Ordering::SeqCst)
     }
 
-    /// Hart 1 has loaded since so many events were shown.
+    /// Notes that hart 1 has loaded after `events` events were shown.
     pub fn look(&self, events: u64) {
         self.looked.store(events, Ordering::SeqCst);
     }
 
-    /// Hart 1 has learnt, which it can't say before.
+    /// Notes that hart 1 has learnt, which it can't say before.
     pub fn acknowledge(&self, learnt: Learnt) {
         self.learnt.store(learnt.events(), Ordering::SeqCst);
     }
 
-    /// Waits until hart 1 has learnt of so many events.
+    /// Waits until hart 1 has learnt of `events` events.
     pub fn wait<R: Wait>(
         &self,
         rt: &R,

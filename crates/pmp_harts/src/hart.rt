@@ -1,4 +1,4 @@
-//! A hart: its checker, and before that a TLB of the rights of pages.
+//! A hart: its checker, and in front of that a TLB with the rights of pages.
 
 ghost use Rattle.std.specs.Prelude.{◌≡◌};
 ghost use Rattle.pmp_share.specs.Batches.{StartsWith, event_count};
@@ -13,7 +13,7 @@ use std::snapshot::Snapshot;
 
 const PAGE: u64 = 4096;
 
-/// An answer, and in how many events: the manual's in the registers that these give. `seen` is for contracts alone.
+/// An answer, the manual's for the registers after its events, and their number. `seen` is for contracts only.
 #[derive(Drop)]
 pub struct Answer {
     pub access: Access,
@@ -47,7 +47,7 @@ impl Answer {
     }
 }
 
-/// What a mode may do in a page, in the registers of so many events.
+/// What a mode may do in a page, in the registers after the given number of events.
 #[derive(Drop)]
 struct Page {
     mode: Mode,
@@ -60,7 +60,7 @@ struct Page {
 }
 
 impl Page {
-    /// Whether the page's rights allow an access that lies in it.
+    /// Whether the page's rights allow an access inside the page.
     fn allows(&self, access: &Access) -> bool
         requires { IsInside access.now self.now.mode self.now.start PAGE }
         ensures { result ≡ allows_at self.now.seen.value access.now }
@@ -69,7 +69,7 @@ impl Page {
     }
 }
 
-/// A hart has learnt of so many events. Only its `learn` makes one.
+/// Evidence that a hart has learnt of `events` events. Only its `learn` creates one.
 #[derive(Drop)]
 pub struct Learnt {
     events: u64,
@@ -83,7 +83,7 @@ impl Learnt {
     }
 }
 
-/// A hart of an emulator. A contract sees its checker: the TLB's pages are of registers that this had or has.
+/// A hart of an emulator. A contract sees its checker: the TLB's pages are of registers that the checker had or has.
 #[derive(Drop)]
 pub struct Hart {
     checker: Checker,
@@ -102,7 +102,7 @@ impl Model for Hart {
 }
 
 impl Hart {
-    /// A hart whose TLB is empty.
+    /// Returns a hart with an empty TLB.
     pub fn new(checker: Checker) -> Hart
         ensures { result ≡ checker }
     {
@@ -122,7 +122,7 @@ impl Hart {
         Learnt { events }
     }
 
-    /// Answers an access as the checker would where it stands now, by the TLB where that holds its page as of just the
+    /// Answers an access as the checker would now, from the TLB if that holds the access's page as of exactly the
     /// events that are published.
     pub fn answer(&mut self, access: &Access) -> Answer
         ensures unit { self.new.unit ≡ self.old.unit }

@@ -19,25 +19,25 @@ use std::sync::{Arc, Wait};
 use std::thread::{JoinHandle, Threads};
 use std::{io, thread};
 
-/// Entries 0 and 1 have two pages each, and the first domain may use those of entry 0.
+/// Gives entries 0 and 1 two pages each, and lets the first domain use those of entry 0.
 const SET_UP: [Event; 3] = [
     Event::Write(Csr::Addr(0), 0x200003ff),
     Event::Write(Csr::Addr(1), 0x20000bff),
     Event::Write(Csr::Cfg(0), 0x181b),
 ];
 
-/// Nobody may use any of them, and then the second domain those of entry 1.
+/// Lets nobody use any of them, and then the second domain those of entry 1.
 const SWITCH: [Event; 2] = [
     Event::Write(Csr::Cfg(0), 0x1818),
     Event::Write(Csr::Cfg(0), 0x1b18),
 ];
 
-/// Where hart 1 loads before each notice: in a page of entry 0 that no walk fills the TLB with.
+/// Where hart 1 loads before each notice: a page of entry 0 that no walk puts into the TLB.
 const BEFORE: u64 = 0x80001000;
 
 type Answers = Vec<Answer>;
 
-/// Starts a unit, which it ends on every answer.
+/// Starts a unit, and ends it in every case.
 fn main(rt: HostRuntime) -> ExitCode {
     let Ok((mut publisher, mut checkers)) = start(&rt, rt.alloc(), 2) else {
         return ExitCode::FAILURE;
@@ -53,8 +53,8 @@ fn main(rt: HostRuntime) -> ExitCode {
     ExitCode::from(u8::from(show(&rt, journal.events(), &answers).is_err()))
 }
 
-/// Shows the answers of the walks of hart 0 and of hart 1, and of hart 1 before each notice, and to how many of them a
-/// replay of what was published gives the same.
+/// Shows the answers of the walks of hart 0 and of hart 1, and of hart 1 before each notice, and how many of them agree
+/// with a replay of what was published.
 fn show(rt: &impl Print, events: &[Event], all: &(Answers, Answers, Answers)) -> io::Result<()> {
     let (mut same, mut count) = (0u64, 0u64);
     for (hart, answers) in [("0", &all.0), ("1", &all.1), ("1 before a notice", &all.2)] {
@@ -73,7 +73,7 @@ fn show(rt: &impl Print, events: &[Event], all: &(Answers, Answers, Answers)) ->
     println!(rt; "a replay answers {same} of {count} loads the same")
 }
 
-/// Runs hart 1 on a thread of its own and hart 0 meanwhile. Answers what `show` shows.
+/// Runs hart 1 on a thread of its own and hart 0 meanwhile. Returns what `show` shows.
 fn run_harts<R: Threads + Wait + Copy + Send + 'static>(
     rt: &R,
     alloc: Global,
@@ -92,7 +92,7 @@ fn run_harts<R: Threads + Wait + Copy + Send + 'static>(
     Ok((zero, one, before))
 }
 
-/// Gives hart 1 a thread.
+/// Starts hart 1 on a thread.
 fn start_one<R: Threads + Wait + Copy + Send + 'static>(
     rt: &R,
     alloc: Global,
@@ -109,8 +109,8 @@ fn start_one<R: Threads + Wait + Copy + Send + 'static>(
     thread::spawn(rt, hart).map_err(|_| ShareFault::NoPlace)
 }
 
-/// Publishes these writes in one step and shows it, sends hart 1 a notice, and waits at a remote fence: it ends no
-/// sooner, since what it answers comes of that wait.
+/// Publishes these writes in one step and shows it, sends hart 1 a notice, and waits at a remote fence: it can't return
+/// earlier, because its result comes from that wait.
 fn program<R: Wait>(
     rt: &R,
     publisher: &mut Publisher,
@@ -131,7 +131,7 @@ fn program<R: Wait>(
     fence.wait(rt, events, notices)
 }
 
-/// Hart 0 sets the first domain up and walks in it, and switches to the second and walks again.
+/// Sets the first domain up on hart 0 and walks in it, then switches to the second and walks again.
 fn run_zero<R: Wait>(
     rt: &R,
     alloc: Global,
@@ -151,8 +151,8 @@ fn run_zero<R: Wait>(
     Ok(answers)
 }
 
-/// Hart 1 loads where it sees that something was published, before a notice of it comes. It learns of each notice and
-/// then walks, until nobody sends any more. Answers what the walks gave, and the other loads.
+/// Has hart 1 load when it sees that something was published, before a notice of it comes. Hart 1 learns each notice
+/// and then walks, until nobody sends any more. Returns the results of the walks, and the other loads.
 fn run_one<R: Wait>(
     rt: &R,
     alloc: Global,
@@ -200,7 +200,7 @@ fn follow<R: Wait>(
     Ok(())
 }
 
-/// Loads eight bytes in user mode.
+/// Loads eight bytes in U-mode.
 fn load(hart: &mut Hart, start: u64) -> Result<Answer, ShareFault>
     ensures { hart.new.unit ≡ hart.old.unit }
 {
@@ -208,7 +208,7 @@ fn load(hart: &mut Hart, start: u64) -> Result<Answer, ShareFault>
     Ok(hart.answer(&load))
 }
 
-/// Loads twice in the first page of entry 0, across into entry 1, and twice in its first page.
+/// Loads twice in the first page of entry 0, then across into entry 1, and twice in its first page.
 fn walk(hart: &mut Hart, answers: &mut Answers) -> Result<(), ShareFault>
     ensures { hart.new.unit ≡ hart.old.unit }
 {

@@ -1,4 +1,4 @@
-//! Registers as debuggers show them.
+//! Registers as shown by debuggers.
 
 ghost use Rattle.std.specs.Prelude.{◌≡◌, ◌<◌, ◌∷◌, codes, length, IfSome, MatchOption};
 ghost use Rattle.pmp_text.specs.Numbers.{numeral};
@@ -12,19 +12,19 @@ use crate::said::{How, Said, Told, is_of_rv32, names_register, read_hex};
 use pmp_core::Csr;
 use pmp_text::{Refusal, Words, read_numeral, read_register};
 
-/// Who shows registers, a line for each.
+/// The program that shows registers, one on each line.
 #[derive(Clone, Copy, Debug, PartialEq, Eq)]
 pub enum Debugger {
-    /// gdb, by `info registers`, of all harts by `thread apply all`.
+    /// gdb, with `info registers`, for all harts with `thread apply all`.
     Gdb,
-    /// OpenOCD, by `reg`.
+    /// OpenOCD, with `reg`.
     OpenOcd,
     /// `pmp dump`.
     Dump,
 }
 
 impl Debugger {
-    /// What a line says.
+    /// Returns what a line says.
     #[tactic(auto, unfolding(crate::specs::Debuggers::debugger_said))]
     pub fn read(self, line: &[u8]) -> Result<Said, Refusal>
         ensures { result ≡ debugger_said self line.now }
@@ -39,7 +39,7 @@ impl Debugger {
         }
     }
 
-    /// What a line's words show.
+    /// Returns what a line's words show.
     fn read_shown(self, shown: Words) -> Option<Told>
         ensures { result ≡ shown_by self (words shown.entry.rest.now) }
     {
@@ -51,7 +51,7 @@ impl Debugger {
     }
 }
 
-/// The register that is called so.
+/// Returns the register with this name.
 #[tactic(auto, unfolding(crate::specs::Debuggers::csr_named))]
 fn read_csr(is_rv32: bool, name: &[u8]) -> Option<Csr>
     ensures { result ≡ csr_named is_rv32 name.now }
@@ -65,7 +65,7 @@ fn read_csr(is_rv32: bool, name: &[u8]) -> Option<Csr>
     }
 }
 
-/// A register that is shown with this value, of a hart whose XLEN may be said to be 32.
+/// Returns a register that is shown with this value, for a hart whose XLEN may be known to be 32.
 #[tactic(auto, unfolding(crate::specs::Debuggers::shown))]
 fn shown(is_of_32: bool, register: Option<Csr>, value: &[u8]) -> Option<Told>
     ensures { result ≡ shown is_of_32 register value.now }
@@ -114,7 +114,7 @@ fn read_dump(mut line: Words) -> Option<Told>
     shown(false, read_csr(true, name), value)
 }
 
-/// A register with its size.
+/// Returns a register with its size.
 #[tactic(auto, unfolding(crate::specs::Debuggers::sized_shown))]
 fn read_sized(name: &[u8], size: &[u8], value: &[u8]) -> Option<Told>
     ensures { result ≡ sized_shown name.now size.now value.now }
@@ -128,7 +128,7 @@ fn read_sized(name: &[u8], size: &[u8], value: &[u8]) -> Option<Told>
     }
 }
 
-/// A register with its size, whose name was read.
+/// Returns a register with its size, whose name was read.
 #[tactic(auto, unfolding(crate::specs::Debuggers::size_shown))]
 fn read_behind<'a>(name: &'a [u8], mut line: Words<'a>) -> Option<Told>
     ensures { result ≡ size_shown (name.entry.now ∷ words line.entry.rest.now) }
@@ -161,7 +161,7 @@ fn is_prompt(word: &[u8]) -> bool
     word == b"(gdb)".as_slice() || word == b">".as_slice()
 }
 
-/// What stands behind a prompt that a line begins with.
+/// Returns the text after a prompt at the beginning of a line.
 fn behind_prompt(line: &[u8]) -> Option<&[u8]>
     ensures shorter { IfSome result (λ rest. length (words rest.now) < length (words line.now)) }
     ensures same { MatchOption result (behind_prompts (words line.now) ≡ words line.now)
@@ -175,7 +175,7 @@ fn behind_prompt(line: &[u8]) -> Option<&[u8]>
     }
 }
 
-/// What stands behind a line's prompts.
+/// Returns the text after a line's prompts.
 fn behind_prompts(line: &[u8]) -> &[u8]
     ensures { words result.now ≡ behind_prompts (words line.now) }
 {
@@ -186,7 +186,7 @@ fn behind_prompts(line: &[u8]) -> &[u8]
     rest
 }
 
-/// Whether a line is typed, or says that a register isn't known.
+/// Whether a line is typed input, or says that a register isn't known.
 fn is_typed(line: &[u8]) -> bool
     ensures { result ≡ is_typed (words line.now) }
 {
@@ -196,7 +196,7 @@ fn is_typed(line: &[u8]) -> bool
     }
 }
 
-/// The head of a thread, which is a hart, or nothing.
+/// Returns the heading of a thread, which is a hart, or nothing.
 #[tactic(auto, unfolding(crate::specs::Debuggers::thread_said))]
 fn read_thread(mut line: Words) -> Result<Said, Refusal>
     ensures { result ≡ thread_said (words line.entry.rest.now) }

@@ -1,4 +1,4 @@
-//! Why a log gives no script.
+//! The reasons why a log gives no script.
 
 ghost use Rattle.std.specs.Prelude.{◌≡◌};
 ghost use Rattle.pmp_text.specs.declared.refusal.Refusal.TheVariants.{Memory, Output};
@@ -7,11 +7,11 @@ ghost use Rattle.pmp_import.specs.Imported.{at, stop_at};
 use pmp_text::{OutputFault, Refusal};
 use std::alloc::AllocError;
 
-/// Why a log gives no script, and where.
+/// The reason why a log gives no script, and where.
 #[derive(Clone, Copy, Debug, PartialEq, Eq)]
 pub struct ImportFault {
     pub kind: Refusal,
-    /// The line of the log, from 1, or 0 where the fault is of no line.
+    /// The line of the log, from 1, or 0 if the fault is of no line.
     pub line: u64,
 }
 
@@ -22,7 +22,7 @@ impl ImportFault {
         ImportFault { kind, line }
     }
 
-    /// The fault of an input that gives no more lines, where this is the number of the next one.
+    /// Returns the fault of an input that gives no more lines, given the number of the next one.
     pub(crate) fn stop(line: u64, refusal: Refusal) -> ImportFault
         ensures { result ≡ stop_at line refusal }
     {

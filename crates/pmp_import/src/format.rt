@@ -1,4 +1,4 @@
-//! The forms of logs.
+//! The formats of logs.
 
 ghost use Rattle.std.specs.Prelude.{◌≡◌, Some};
 ghost use Rattle.pmp_import.specs.Formats.{format_named, line_said, source_text};
@@ -10,23 +10,23 @@ use crate::spike::read_spike;
 use pmp_text::Refusal;
 use std::fmt;
 
-/// The form of a log.
+/// The format of a log.
 #[derive(Clone, Copy, Debug, PartialEq, Eq)]
 pub enum Format {
     /// QEMU's log of trace events.
     Qemu,
-    /// What gdb answers to `info registers`.
+    /// The output of gdb for `info registers`.
     Gdb,
-    /// What OpenOCD answers to `reg`.
+    /// The output of OpenOCD for `reg`.
     OpenOcd,
     /// Spike's log of commits.
     Spike,
-    /// What `pmp dump` writes.
+    /// The output of `pmp dump`.
     Dump,
 }
 
 impl Format {
-    /// The form that a word names.
+    /// Returns the format that a word names.
     pub fn named(word: &[u8]) -> Option<Format>
         ensures { result ≡ format_named word.now }
     {
@@ -45,7 +45,7 @@ impl Format {
         }
     }
 
-    /// What a line of such a log says, or why it is refused.
+    /// Returns what a line of such a log says, or why it is refused.
     pub fn read(self, line: &[u8]) -> Result<Said, Refusal>
         ensures { result ≡ line_said self line.now }
     {
@@ -59,7 +59,7 @@ impl Format {
     }
 }
 
-/// Where such a log comes from.
+/// Names the source of such a log.
 impl fmt::Display for Format {
     ghost output = { λ format. Some (source_text format) };
 

@@ -1,4 +1,4 @@
-//! What is given of a log, and where a reading of it stands.
+//! The settings for a script made from a log, and the state of reading the log.
 
 ghost use Rattle.std.specs.Prelude.{◌≡◌};
 ghost use Rattle.pmp_import.specs.Imported.{beginning, behind_line, behind_reset, behind_said, behind_told};
@@ -8,42 +8,42 @@ use crate::format::Format;
 use crate::said::{Said, Told};
 use pmp_core::BATCH_EVENTS;
 
-/// What a script is to say of the hart, and how it is written.
+/// What a script says about the hart, and how it is written.
 #[derive(Clone, Copy)]
 pub struct Given {
     pub format: Format,
-    /// The hart whose registers it has.
+    /// The hart whose registers the script has.
     pub hart: u64,
     pub is_rv32: bool,
     pub entries: u64,
-    /// The grain in bytes, where it is said.
+    /// The grain in bytes, if it is given.
     pub grain: Option<u64>,
-    /// How many bits a physical address has, where that is said.
+    /// The number of physical address bits, if it is given.
     pub bits: Option<u64>,
     pub has_smepmp: bool,
-    /// Whether writes on lines side by side make one publication.
+    /// Whether writes on consecutive lines make one publication.
     pub bursts: bool,
 }
 
-/// Where a reading stands, between two lines.
+/// The state of a reading, between two lines.
 #[derive(Clone, Copy)]
 pub struct Walk {
     /// The number of the next line, from 1.
     pub line: u64,
     /// The number of the next reset, from 1.
     pub reset: u64,
-    /// How many writes the open publication has.
+    /// The number of writes in the open publication.
     pub pending: u64,
     /// Whether the hart has been used since the last reset.
     pub is_used: bool,
-    /// Whether a line told of a write or a value of the hart.
+    /// Whether a line reported a write or a value of the hart.
     pub is_found: bool,
     /// The hart whose registers are shown.
     pub shown: u64,
 }
 
 impl Given {
-    /// Whether a line tells of the hart.
+    /// Whether a line is about the hart.
     pub fn is_of_hart(self, walk: Walk, told: Told) -> bool
         ensures { result ≡ is_of_hart self walk told }
     {
@@ -59,7 +59,7 @@ impl Given {
 }
 
 impl Walk {
-    /// Before the first line.
+    /// The state before the first line.
     pub const BEGINNING: Walk = Walk {
         line: 1,
         reset: 1,
@@ -76,7 +76,7 @@ impl Walk {
         self.pending > 0
     }
 
-    /// Behind a line that says this.
+    /// Returns the state after a line that says this.
     pub fn behind(self, given: Given, said: Said) -> Walk
         ensures { result ≡ behind_said given self said }
     {
@@ -91,7 +91,7 @@ impl Walk {
         }
     }
 
-    /// Behind a line that gives no event.
+    /// Returns the state after a line without an event.
     fn behind_line(self) -> Walk
         ensures { result ≡ behind_line self }
     {
@@ -102,7 +102,7 @@ impl Walk {
         }
     }
 
-    /// Behind a line that resets the hart.
+    /// Returns the state after a line that resets the hart.
     fn behind_reset(self) -> Walk
         ensures { result ≡ behind_reset self }
     {
@@ -118,7 +118,7 @@ impl Walk {
         }
     }
 
-    /// Behind a line that tells this of the hart.
+    /// Returns the state after a line that reports this about the hart.
     fn behind_told(self, given: Given, told: Told) -> Walk
         ensures { result ≡ behind_told given self told }
     {

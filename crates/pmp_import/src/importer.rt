@@ -13,7 +13,7 @@ use crate::said::{Said, Told};
 use pmp_text::{Refusal, Sink, append_line, split_first_line};
 use std::alloc::AllocError;
 
-/// The script of a log, which is made line by line, and appended to a text.
+/// The script of a log, made line by line, and appended to a text.
 #[derive(Drop)]
 pub struct Importer {
     pub given: Given,
@@ -21,7 +21,7 @@ pub struct Importer {
 }
 
 impl Importer {
-    /// Before the first line.
+    /// Returns the state before the first line.
     pub fn new(given: Given) -> Importer
         ensures given { result.given ≡ given }
         ensures walk { result.walk ≡ beginning }
@@ -40,7 +40,7 @@ impl Importer {
         append_line(out, Head(self.given))
     }
 
-    /// Appends what a line gives, or nothing.
+    /// Appends the result of a line, or nothing.
     pub fn take_line<S: Sink>(&mut self, out: &mut S, line: &[u8]) -> Result<(), ImportFault>
         ensures given { self.new.given ≡ self.old.given }
         ensures ok { OnOk result (GoesOn self.old.given self.old.walk self.new.walk (line.now ∷ [])
@@ -54,7 +54,7 @@ impl Importer {
         Ok(())
     }
 
-    /// What a line says.
+    /// Returns what a line says.
     fn read_line(&self, line: &[u8]) -> Result<Said, ImportFault>
         ensures ok { IfOk result (λ said. line_of self.now.given self.now.walk line.now ≡ Ok said) }
         ensures err { IfErr result (λ fault. (refusal : Refusal) × (fault ≡ at self.now.walk.line refusal)
@@ -72,7 +72,7 @@ impl Importer {
         }
     }
 
-    /// Why the hart can't have what a line tells of it.
+    /// Returns why the hart can't have what a line reports about it.
     fn line_fault(&self, said: Said) -> Option<Refusal>
         ensures { result ≡ line_fault self.now.given self.now.walk said }
     {
@@ -84,7 +84,7 @@ impl Importer {
         }
     }
 
-    /// Appends what the lines of a text give, up to the first fault.
+    /// Appends the results of the lines of a text, up to the first fault.
     pub fn take_lines<S: Sink>(&mut self, out: &mut S, text: &[u8]) -> Result<(), ImportFault>
         ensures given { self.new.given ≡ self.old.given }
         ensures ok { OnOk result (GoesOn self.old.given self.old.walk self.new.walk (lines text.now)
@@ -99,7 +99,7 @@ impl Importer {
         Ok(())
     }
 
-    /// Appends what the end of the log gives, or nothing.
+    /// Appends the result of the end of the log, or nothing.
     pub fn end<S: Sink>(&self, out: &mut S) -> Result<(), ImportFault>
         ensures ok { OnOk result (EndsWith self.now.given self.now.walk (S.text out.old) (S.text out.new)) }
         ensures err { IfErr result (StopsAtEnd self.now.given self.now.walk) }
@@ -111,7 +111,7 @@ impl Importer {
     }
 }
 
-/// Why a hart of this XLEN can't have what a line tells.
+/// Returns why a hart of this XLEN can't have what a line reports.
 fn foreign(is_rv32: bool, told: &Told) -> Option<Refusal>
     ensures { result ≡ foreign is_rv32 told.now }
 {

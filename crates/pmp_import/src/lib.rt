@@ -1,4 +1,4 @@
-//! Captures of real harts as scripts: QEMU's trace, what debuggers show of registers, and Spike's log of commits.
+//! Captures of real harts as scripts: QEMU's trace, registers as shown by debuggers, and Spike's commit log.
 #![tactic(auto)]
 
 mod debuggers;

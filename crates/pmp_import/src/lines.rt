@@ -1,4 +1,4 @@
-//! The lines of a script that a log gives.
+//! The lines of a script that is made from a log.
 
 ghost use Rattle.std.specs.Prelude.{◌≡◌, Some, codes, if◌then◌else◌};
 ghost use Rattle.pmp_import.specs.Imported.{head_text, kept_lines, kept_of, known_lines, number_line, other_entries};
@@ -11,7 +11,7 @@ use pmp_core::Csr;
 use pmp_text::RegisterName;
 use std::fmt;
 
-/// The version, what the hart is, and the name of the moment before its first event.
+/// The version, the hart, and the name of the moment before its first event.
 #[derive(Clone, Copy)]
 pub struct Head(pub Given);
 
@@ -54,7 +54,7 @@ fn smepmp_line<'a>(has_smepmp: bool) -> &'a str
     if has_smepmp { "" } else { "hart smepmp no\n" }
 }
 
-/// What a hart line says of a number, where it is said.
+/// The hart line that gives a number, if it is known.
 #[derive(Clone, Copy)]
 struct NumberLine<'a>(&'a str, Option<u64>);
 
@@ -94,7 +94,7 @@ fn kept_of(is_rv32: bool, register: Csr, value: u64) -> u64
     }
 }
 
-/// That a register has this value, but for bits that no hart keeps.
+/// The line that a register has this value, except bits that no hart keeps.
 #[derive(Clone, Copy)]
 struct KeptLines<'a> {
     word: &'a str,
@@ -127,7 +127,7 @@ impl<'a> fmt::Display for KeptLines<'a> {
     }
 }
 
-/// What is written to a register.
+/// The lines for a write to a register.
 #[derive(Clone, Copy)]
 struct WriteLines(Told);
 
@@ -143,7 +143,7 @@ impl fmt::Display for WriteLines {
     }
 }
 
-/// What is known to be in a register then.
+/// The lines for a value that a register is known to have then.
 #[derive(Clone, Copy)]
 struct KnownLines {
     is_rv32: bool,
@@ -175,7 +175,7 @@ pub fn publish_if<'a>(is_due: bool) -> &'a str
     if is_due { "publish\n" } else { "" }
 }
 
-/// What a line tells of the hart.
+/// The lines for what a line of the log says about the hart.
 #[derive(Clone, Copy)]
 struct ToldLines {
     given: Given,
@@ -204,7 +204,7 @@ impl fmt::Display for ToldLines {
     }
 }
 
-/// The name of the moment behind a reset with this number.
+/// The name of the moment after the reset with this number.
 #[derive(Clone, Copy)]
 struct ResetName(u64);
 
@@ -219,7 +219,7 @@ impl fmt::Display for ResetName {
     }
 }
 
-/// What a reset gives.
+/// The lines for a reset.
 #[derive(Clone, Copy)]
 struct ResetLines(Walk);
 
@@ -237,7 +237,7 @@ impl fmt::Display for ResetLines {
     }
 }
 
-/// What a line of the log gives.
+/// The lines for a line of the log.
 #[derive(Clone, Copy)]
 pub struct SaidLines {
     pub given: Given,

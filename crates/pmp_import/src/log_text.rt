@@ -1,4 +1,4 @@
-//! A log that is at hand as a text, and its script.
+//! A log that is available as a text, and its script.
 
 ghost use Rattle.std.specs.Prelude.{◌≡◌, IfErr, OnOk};
 ghost use Rattle.pmp_text.specs.Lines.{lines};
@@ -12,7 +12,7 @@ use crate::options::Options;
 use crate::survey::Survey;
 use pmp_text::Sink;
 
-/// What is given of a log, by all that it has.
+/// Returns the settings for a log, from its whole text.
 fn given_by(format: Format, options: Options, log: &[u8]) -> Result<Given, ImportFault>
     ensures { result ≡ given_by format options (lines log.now) }
 {
@@ -23,9 +23,9 @@ fn given_by(format: Format, options: Options, log: &[u8]) -> Result<Given, Impor
     }
 }
 
-/// Appends the script of a log, which is read twice: what isn't asked for is guessed from all of it.
+/// Appends the script of a log, which is read twice: what the options leave open is guessed from the whole log.
 ///
-/// Where memory runs out, a part of the script may have been appended.
+/// If memory runs out, a part of the script may have been appended.
 pub fn append_import<S: Sink>(
     format: Format,
     options: Options,

@@ -1,4 +1,4 @@
-//! What is asked for of a script.
+//! The options for a script.
 
 ghost use Rattle.std.specs.Prelude.{◌≡◌};
 ghost use Rattle.pmp_import.specs.Surveys.{given_alone, given_for, given_of, survey_fault};
@@ -9,7 +9,7 @@ use crate::given::Given;
 use crate::survey::Survey;
 use pmp_text::Refusal;
 
-/// What is asked for of a script. What isn't said is guessed from the log.
+/// The options for a script. What isn't given is guessed from the log.
 #[derive(Clone, Copy)]
 pub struct Options {
     pub hart: Option<u64>,
@@ -17,15 +17,15 @@ pub struct Options {
     pub entries: Option<u64>,
     /// The grain in bytes.
     pub grain: Option<u64>,
-    /// How many bits a physical address has.
+    /// The number of physical address bits.
     pub bits: Option<u64>,
     pub has_smepmp: bool,
-    /// Whether writes on lines side by side make one publication.
+    /// Whether writes on consecutive lines make one publication.
     pub bursts: bool,
 }
 
 impl Options {
-    /// What is given of a log that is read once.
+    /// Returns the settings for a log that is read once.
     pub fn alone(self, format: Format) -> Given
         ensures { result ≡ given_alone format self }
     {
@@ -34,7 +34,7 @@ impl Options {
         self.given(format, hart, is_rv32, self.entries.unwrap_or(16))
     }
 
-    /// What is given of a log of which this was found, or why it has no script.
+    /// Returns the settings for a log with this survey, or why it has no script.
     pub fn with(self, format: Format, survey: &Survey) -> Result<Given, ImportFault>
         ensures { result ≡ given_for format self survey.now }
     {
@@ -63,7 +63,7 @@ impl Options {
     }
 }
 
-/// Why a log of which this was found has no script.
+/// Returns why a log with this survey has no script.
 fn survey_fault(is_rv32: bool, survey: &Survey) -> Option<ImportFault>
     ensures { result ≡ survey_fault is_rv32 survey.now }
 {

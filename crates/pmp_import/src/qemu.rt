@@ -9,7 +9,7 @@ use crate::said::{How, Said, Told, is_of_rv32, occurs, read_hex};
 use pmp_core::Csr;
 use pmp_text::{Refusal, Words, read_numeral, read_plain_number};
 
-/// What a line says. Before an event's name may stand what tells of a process and a time.
+/// Returns what a line says. An event's name may follow a stamp of the process and the time.
 #[tactic(auto, unfolding(crate::specs::Qemu::qemu_said))]
 pub fn read_qemu(line: &[u8]) -> Result<Said, Refusal>
     ensures { result ≡ qemu_said line.now }
@@ -40,7 +40,7 @@ fn first_unstamped(line: &[u8]) -> Option<usize>
     line.iter().position(|byte| !is_stamp(*byte))
 }
 
-/// What stands behind a line's stamp.
+/// Returns the text after a line's stamp.
 #[tactic(auto, unfolding(crate::specs::Qemu::unstamped))]
 fn unstamped(line: &[u8]) -> &[u8]
     ensures { result.now ≡ unstamped line.now }
@@ -58,7 +58,7 @@ fn names_event(line: &[u8]) -> bool
     occurs(b"pmpcfg_csr_", line) || occurs(b"pmpaddr_csr_", line) || occurs(b"mseccfg_csr_", line)
 }
 
-/// What the words of an event tell, where they are those of a write or a read.
+/// Returns what the words of an event report, if they are those of a write or a read.
 #[tactic(auto, unfolding(crate::specs::Qemu::event_told))]
 fn read_event(mut event: Words) -> Option<Told>
     ensures { result ≡ event_told (words event.entry.rest.now) }
@@ -76,7 +76,7 @@ fn read_event(mut event: Words) -> Option<Told>
     read_access(name, number, verb, register, value)
 }
 
-/// What the words of a write or a read tell.
+/// Returns what the words of a write or a read report.
 #[tactic(auto, unfolding(crate::specs::Qemu::access_of))]
 fn read_access(
     name: &[u8],
@@ -112,7 +112,7 @@ fn read_verb(verb: &[u8]) -> Option<How>
     }
 }
 
-/// The end of the name of an event that tells so.
+/// Returns the end of the name of an event of this kind.
 fn name_end(how: How) -> &'static [u8]
     ensures { result.now ≡ name_end how }
 {
@@ -122,7 +122,7 @@ fn name_end(how: How) -> &'static [u8]
     }
 }
 
-/// The register that an event of this kind of registers calls so.
+/// Returns the register that has this name in an event about this kind of registers.
 #[tactic(auto, unfolding(crate::specs::Qemu::csr_called))]
 fn read_csr(kind: &[u8], register: &[u8]) -> Option<Csr>
     ensures { result ≡ csr_called kind.now register.now }

@@ -8,7 +8,7 @@ use memchr::arch::all::rabinkarp::Finder;
 use pmp_core::Csr;
 use pmp_text::read_numeral;
 
-/// How a line tells of a register's value.
+/// How a line reports a register's value.
 #[derive(Clone, Copy, Debug, PartialEq, Eq)]
 pub enum How {
     /// A hart writes the value.
@@ -37,10 +37,10 @@ impl How {
     }
 }
 
-/// What a line tells of a register.
+/// What a line reports about a register.
 #[derive(Clone, Copy, Debug, PartialEq, Eq)]
 pub struct Told {
-    /// The hart that has the register, where the line names it.
+    /// The hart that has the register, if the line names it.
     pub hart: Option<u64>,
     pub how: How,
     pub register: Csr,
@@ -61,16 +61,16 @@ impl Told {
 /// What a line of a log says.
 #[derive(Clone, Copy, Debug, PartialEq, Eq)]
 pub enum Said {
-    /// Nothing of PMP.
+    /// Nothing about PMP.
     Nothing,
     /// The machine is reset.
     Reset,
-    /// The registers behind it are those of this hart.
+    /// The registers after it belong to this hart.
     Hart(u64),
     Register(Told),
 }
 
-/// Whether RV32 alone has the register.
+/// Whether only RV32 has the register.
 pub fn is_of_rv32(register: Csr) -> bool
     ensures { result ≡ is_of_rv32 register }
 {
@@ -81,21 +81,21 @@ pub fn is_of_rv32(register: Csr) -> bool
     }
 }
 
-/// The number that `0x` and hexadecimal digits write.
+/// Returns the number written as `0x` and hexadecimal digits.
 pub fn read_hex(word: &[u8]) -> Option<u64>
     ensures { result ≡ hex_number word.now }
 {
     read_numeral(word.strip_prefix(b"0x")?, 16, 16)
 }
 
-/// Whether the name stands somewhere in the line.
+/// Whether the name occurs in the line.
 pub fn occurs(name: &[u8], line: &[u8]) -> bool
     ensures { result ≡ occurs name.now line.now }
 {
     Finder::new(name).find(line, name).is_some()
 }
 
-/// Whether a register's name stands in the line.
+/// Whether a register's name occurs in the line.
 #[tactic(auto, unfolding(crate::specs::Said::names_register))]
 pub fn names_register(line: &[u8]) -> bool
     ensures { result ≡ names_register line.now }

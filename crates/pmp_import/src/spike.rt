@@ -1,4 +1,4 @@
-//! Spike's log of commits.
+//! Spike's commit log.
 
 ghost use Rattle.std.specs.Prelude.{◌≡◌, ◌<◌, ◌^◌, is_some, position};
 ghost use Rattle.std.specs.List.{after_first, before_first, list_any};
@@ -11,7 +11,7 @@ use crate::said::{How, Said, Told, names_register, read_hex};
 use pmp_core::Csr;
 use pmp_text::{Refusal, Words, read_numeral, read_register_number};
 
-/// What a line says.
+/// Returns what a line says.
 #[tactic(auto, unfolding(crate::specs::Spike::spike_said))]
 pub fn read_spike(line: &[u8]) -> Result<Said, Refusal>
     ensures { result ≡ spike_said line.now }
@@ -66,14 +66,14 @@ fn is_code(word: &[u8]) -> bool
     read_code(word).is_some()
 }
 
-/// The code of an instruction.
+/// Returns the code of an instruction.
 fn read_code(word: &[u8]) -> Option<u64>
     ensures { is_some result ≡ is_code word.now }
 {
     read_hex(word.strip_prefix(b"(")?.strip_suffix(b")")?)
 }
 
-/// What a commit at this address writes.
+/// Returns what a commit at this address writes.
 #[tactic(auto, unfolding(crate::specs::Spike::written_at))]
 fn read_written(number: &[u8], address: &[u8], written: Words) -> Option<Told>
     ensures { result ≡ written_at number.now address.now (words written.entry.rest.now) }
@@ -86,7 +86,7 @@ fn read_written(number: &[u8], address: &[u8], written: Words) -> Option<Told>
     find_written(hart, is_rv32, written)
 }
 
-/// The number that `0x` and as many digits write as a register has.
+/// Returns the number written as `0x` and as many digits as a register has.
 #[tactic(auto, unfolding(crate::specs::Spike::sized_number))]
 fn read_sized(is_rv32: bool, word: &[u8]) -> Option<u64>
     ensures { result ≡ sized_number is_rv32 word.now }
@@ -99,7 +99,7 @@ fn read_sized(is_rv32: bool, word: &[u8]) -> Option<u64>
     }
 }
 
-/// The CSR that one of these words names, whose value stands behind it.
+/// Returns the CSR that one of these words names, with the value after it.
 #[tactic(auto, unfolding(crate::specs::Spike::written_in))]
 fn find_written(hart: u64, is_rv32: bool, mut written: Words) -> Option<Told>
     ensures { result ≡ written_in hart is_rv32 (words written.entry.rest.now) }
@@ -143,7 +143,7 @@ fn first_low_line(word: &[u8]) -> Option<usize>
     word.iter().position(|byte| *byte == b'_')
 }
 
-/// What stands before the first underscore, and what stands after it.
+/// Returns the text before the first underscore, and the text after it.
 fn split_at_low_line(word: &[u8]) -> (&[u8], &[u8])
     ensures front { result.0.now ≡ before_first is_low_line word.now }
     ensures behind { result.1.now ≡ after_first is_low_line word.now }
@@ -154,7 +154,7 @@ fn split_at_low_line(word: &[u8]) -> (&[u8], &[u8])
     }
 }
 
-/// A CSR by its number and its name.
+/// Returns a CSR given by its number and its name.
 #[tactic(auto, unfolding(crate::specs::Spike::csr_committed))]
 fn read_csr(is_rv32: bool, word: &[u8]) -> Option<Csr>
     ensures { result ≡ csr_committed is_rv32 word.now }

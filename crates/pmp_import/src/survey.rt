@@ -1,4 +1,4 @@
-//! What a first reading of a log finds.
+//! A survey: what a first reading of a log finds.
 
 ghost use Rattle.std.specs.Prelude.{◌≡◌, ◌++◌, ◌∷◌, [], List, ℕ, IfErr, OnOk, Err, if◌then◌else◌};
 ghost use Rattle.pmp_text.specs.Lines.{lines};
@@ -12,7 +12,7 @@ use crate::said::{How, Said, Told};
 use pmp_core::Csr;
 use pmp_text::split_first_line;
 
-/// How many harts have their writes counted: those with the lowest numbers.
+/// The number of harts whose writes are counted: those with the lowest numbers.
 pub const COUNTED: usize = 64;
 
 /// What a first reading of a log finds.
@@ -20,21 +20,21 @@ pub const COUNTED: usize = 64;
 pub struct Survey {
     /// The number of the next line, from 1.
     pub line: u64,
-    /// The hart that is asked for, or else that of the first write, or of the first register that is shown.
+    /// The hart that is asked for, or else the hart of the first write or of the first register shown.
     pub hart: Option<u64>,
-    /// How many writes and registers that are shown it has.
+    /// The number of its writes and of its registers shown.
     pub own: u64,
-    /// How many the other harts have, which are left out.
+    /// The same number for the other harts, which are left out.
     pub left: u64,
     /// The first line that only RV32 has.
     pub of_rv32: Option<u64>,
-    /// The first line with a value that RV32 doesn't have.
+    /// The first line with a value that RV32 can't have.
     pub wide: Option<u64>,
     /// Whether a register of entries 16 to 63 has a value other than zero.
     pub has_many: bool,
-    /// How many writes and registers that are shown each of the first harts has.
+    /// The number of writes and registers shown, for each of the first harts.
     pub writes: [u64; COUNTED],
-    /// How many lines say nothing.
+    /// The number of lines that say nothing.
     pub others: u64,
     /// The hart whose registers are shown.
     pub shown: u64,
@@ -61,7 +61,7 @@ fn needs_many(told: &Told) -> bool
 impl Survey {
     ghost use Rattle.pmp_import.specs.Surveys.{behind_found, behind_line, behind_told, is_own, nothing_found, with_told};
 
-    /// Before the first line, where this hart is asked for.
+    /// Returns the survey before the first line, if this hart is asked for.
     pub fn new(hart: Option<u64>) -> Survey
         ensures { result ≡ nothing_found hart }
     {
@@ -79,7 +79,7 @@ impl Survey {
         }
     }
 
-    /// Takes what a line says.
+    /// Takes in what a line says.
     fn take(&mut self, said: Said)
         ensures { self.new ≡ behind_line self.old said }
     {
@@ -92,7 +92,7 @@ impl Survey {
         self.line = self.line.saturating_add(1);
     }
 
-    /// Takes what a line tells of a register.
+    /// Takes in what a line reports about a register.
     fn take_told(&mut self, told: Told)
         ensures { self.new ≡ behind_told self.old told }
     {
@@ -112,7 +112,7 @@ impl Survey {
         self.hart.unwrap_or(hart) == hart
     }
 
-    /// Takes what a line tells of a register of the hart.
+    /// Takes in what a line reports about a register of the hart.
     fn look_at(&mut self, told: &Told)
         ensures { self.new ≡ with_told self.old told.now }
     {
@@ -150,7 +150,7 @@ impl Survey {
         }
     }
 
-    /// Takes the lines of a text, up to the first fault.
+    /// Takes in the lines of a text, up to the first fault.
     pub fn take_lines(&mut self, format: Format, text: &[u8]) -> Result<(), ImportFault>
         ensures ok { OnOk result (FindsOn format self.old self.new (lines text.now)) }
         ensures err { IfErr result (FindsFault format self.old (lines text.now)) }
@@ -164,7 +164,7 @@ impl Survey {
     }
 }
 
-/// The number of the first line of its kind.
+/// Returns the number of the first line of its kind.
 fn first_line(first: Option<u64>, is_one: bool, line: u64) -> Option<u64>
     ensures { result ≡ first_line first is_one line }
 {

@@ -1,4 +1,4 @@
-//! A log of any length: what it has, and its script.
+//! A log of any length: its survey, and its script.
 
 ghost use Rattle.std.specs.Prelude.{IfErr, IfOk, OnOk};
 ghost use Rattle.pmp_import.specs.Imports.{CantImport, CantSurvey, IsImported, IsSurveyed};
@@ -12,10 +12,10 @@ use pmp_text::{Cut, Refusal, cut_lines, write_out};
 use std::alloc::Global;
 use std::io::{Read, Write};
 
-/// The most bytes of the lines that are read at a time, and so of a line.
+/// The greatest length of the lines that are read at a time, and so of a line, in bytes.
 pub const MOST_LINES: usize = 1 << 16;
 
-/// What a log of any length has, where this hart is asked for.
+/// Returns the survey of a log of any length, if this hart is asked for.
 pub fn survey_log<R: Read>(
     alloc: Global,
     format: Format,
@@ -42,8 +42,8 @@ pub fn survey_log<R: Read>(
 
 /// Writes the script of a log of any length, in memory for `MOST_LINES` bytes of it and what they give.
 ///
-/// What the lines give that are read at a time is written before others are read, so a refusal may come behind a part of
-/// the script.
+/// The script of the lines that are read at a time is written before others are read, so a refusal may come after a
+/// part of the script.
 pub fn import<R: Read, W: Write>(
     alloc: Global,
     given: Given,

@@ -8,11 +8,11 @@ use crate::finding::Finding;
 use crate::lint::Lint;
 use pmp_text::read_word_number;
 
-/// Findings that aren't told: those of a lint, at every line or at one.
+/// Findings that aren't reported: those of a lint, at every line or at one.
 #[derive(Clone, Copy, Debug, PartialEq, Eq)]
 pub struct Accepted {
     pub lint: Lint,
-    /// The line, or none where it doesn't matter.
+    /// The line, or none for every line.
     pub line: Option<u64>,
 }
 
@@ -41,7 +41,7 @@ fn accepted_at(lint: Option<Lint>, line: Option<u64>) -> Option<Accepted>
 }
 
 impl Accepted {
-    /// What a word accepts: `NAME` the findings of a lint, `NAME:LINE` those at this line.
+    /// Returns what a word accepts: `NAME` the findings of a lint, `NAME:LINE` those at this line.
     pub fn read(word: &[u8]) -> Option<Accepted>
         ensures { result ≡ accepted_said word.now }
     {

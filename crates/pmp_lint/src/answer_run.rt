@@ -10,7 +10,7 @@ use pmp_core::{Access, Decision};
 use pmp_text::{NoMemory, Script, Sink, write_row};
 use std::alloc::{AllocError, Global};
 
-/// Moments one after the other at which an access is decided alike. A moment is how many publications are done.
+/// Consecutive moments at which an access is decided alike. A moment is a number of publications done.
 #[derive(Clone, Copy, Debug, PartialEq, Eq)]
 pub struct AnswerRun {
     pub first: u64,
@@ -18,7 +18,7 @@ pub struct AnswerRun {
     pub decision: Decision,
 }
 
-/// How the access is decided at every moment of the script, as runs of moments that are as long as can be.
+/// Returns how the access is decided at every moment of the script, as runs of moments of maximal length.
 pub fn history(
     alloc: Global,
     script: &Script<'_>,
@@ -62,8 +62,8 @@ fn write_runs<S: Sink>(out: &mut S, access: &Access, runs: &[AnswerRun]) -> Resu
     Ok(())
 }
 
-/// Appends a row for each of these runs, `FIRST,ANSWER,FAULT,CAUSE,ENTRY` and LF: a report row whose number is the first
-/// moment of the run.
+/// Appends a row for each of these runs, `FIRST,ANSWER,FAULT,CAUSE,ENTRY` and LF: a report row whose number is the
+/// first moment of the run.
 pub fn append_history<S: Sink>(
     out: &mut S,
     access: &Access,

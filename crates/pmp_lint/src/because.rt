@@ -1,4 +1,4 @@
-//! Why an access is decided as it is.
+//! The reason why an access is decided as it is.
 
 ghost use Rattle.std.specs.Prelude.{◌≡◌, ◌<◌, ◌≤◌, IfSome, IsTrue, length, option_map};
 ghost use Rattle.pmp_core.specs.Decision.{IsDecision};
@@ -9,13 +9,13 @@ use crate::decider::Decider;
 use pmp_core::{Access, Cause, Decision, RegFile};
 use pmp_text::Script;
 
-/// Why an access is decided as it is at a moment of a script.
+/// The reason why an access is decided as it is at a moment of a script.
 #[derive(Clone, Copy, Debug, PartialEq, Eq)]
 pub struct Because {
     pub decision: Decision,
-    /// The first moment from which on it is decided so up to that one.
+    /// The first moment from which it has been decided so up to that one.
     pub since: u64,
-    /// The entry that decides: the first one that matches a byte of the access. None where no entry does.
+    /// The deciding entry: the first one that matches a byte of the access. None if there is none.
     pub decider: Option<Decider>,
 }
 
@@ -28,7 +28,7 @@ struct Decided {
     since: u64,
 }
 
-/// Whether both are one decision.
+/// Whether both decisions are the same.
 pub fn is_same(one: &Decision, other: &Decision) -> bool
     ensures yes { IsTrue result → one.now ≡ other.now }
     ensures no { one.now ≡ other.now → IsTrue result }
@@ -36,7 +36,7 @@ pub fn is_same(one: &Decision, other: &Decision) -> bool
     one == other
 }
 
-/// How the access is decided after the script's first `done` publications, and since when.
+/// Returns how the access is decided after the script's first `done` publications, and since when.
 fn decided_at(script: &Script<'_>, done: u64, access: &Access) -> Decided
     requires { done ≤ length script.now.batches }
     ensures file { result.file ≡ file_of_script script.now done }
@@ -61,7 +61,7 @@ fn decided_at(script: &Script<'_>, done: u64, access: &Access) -> Decided
     }
 }
 
-/// The entry that decides, where one does.
+/// Returns the deciding entry, if there is one.
 pub fn deciding_entry(cause: Cause) -> Option<u8>
     ensures { result ≡ entry_of cause }
 {
@@ -71,7 +71,7 @@ pub fn deciding_entry(cause: Cause) -> Option<u8>
     }
 }
 
-/// That entry, decoded.
+/// Returns that entry, decoded.
 fn decider_of(script: &Script<'_>, done: u64, file: &RegFile, entry: Option<u8>) -> Option<Decider>
     requires within { done ≤ length script.now.batches }
     requires file { file.now ≡ file_of_script script.now done }
@@ -84,7 +84,7 @@ fn decider_of(script: &Script<'_>, done: u64, file: &RegFile, entry: Option<u8>)
     }
 }
 
-/// Why the access is decided as it is after the script's first `done` publications.
+/// Returns why the access is decided as it is after the script's first `done` publications.
 pub fn why(script: &Script<'_>, done: u64, access: &Access) -> Because
     requires { done ≤ length script.now.batches }
     ensures { IsWhy script.now done access.now result }

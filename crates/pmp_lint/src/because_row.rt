@@ -126,12 +126,12 @@ impl fmt::Display for Fields {
 /// Appends a row that says why the access is decided as it is,
 /// `SINCE,ANSWER,FAULT,CAUSE,ENTRY,MATCHING,FIRST,LAST,BITS,TABLE,LOCK,HELD,CONFIGURED,ADDRESSED,LOWEND` and LF.
 ///
-/// SINCE is the first moment from which on it is decided so, and ANSWER to ENTRY are those of report rows. MATCHING to
-/// LAST are those of entry rows. BITS are L, R, W and X, and TABLE says which table reads them: `smepmp` where MML is
-/// set, else `plain`. LOCK is that of entry rows, and HELD is `held` where all entries before it are frozen too.
-/// CONFIGURED and ADDRESSED are the lines that changed its configuration and its address register last, 0 where none
-/// did, and LOWEND that of the address register before it, where it is the low end of its range. What is said of the
-/// entry is empty where none decides.
+/// SINCE is the first moment from which it is decided so, and ANSWER to ENTRY are those of report rows. MATCHING to
+/// LAST are those of entry rows. BITS are L, R, W and X, and TABLE says which table applies to them: `smepmp` if MML is
+/// set, and otherwise `plain`. LOCK is that of entry rows, and HELD is `held` if all entries before it are frozen too.
+/// CONFIGURED and ADDRESSED are the lines that last changed its configuration and its address register, 0 if none did,
+/// and LOWEND that of the address register before it, if that is the low end of its range. The fields of the entry are
+/// empty if none decides.
 #[tactic(auto, unfolding(crate::specs::WhyRows::why_row))]
 pub fn append_why<S: Sink>(out: &mut S, access: &Access, why: &Because) -> Result<(), NoMemory>
     ensures ok { OnOk result (S.text out.new ≡ S.text out.old ++ why_row access.now why.now) }

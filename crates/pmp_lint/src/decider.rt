@@ -23,7 +23,7 @@ pub struct RuleBits {
     pub execute: bool,
 }
 
-/// The entry that decides an access, as it is then, and the lines of the events that changed it last: 0 where none did.
+/// The deciding entry of an access at that moment, and the lines of the events that last changed it: 0 if none did.
 #[derive(Clone, Copy, Debug, PartialEq, Eq)]
 pub struct Decider {
     pub entry: u8,
@@ -41,12 +41,12 @@ pub struct Decider {
     pub configured: u64,
     /// The line that changed its address register.
     pub addressed: u64,
-    /// The line that changed the address register before it, where that is the low end of its range.
+    /// The line that changed the address register before it, if that is the low end of its range.
     pub low_end: Option<u64>,
 }
 
 impl RuleBits {
-    /// What this row of Smepmp's table says.
+    /// Returns what this row of Smepmp's table says.
     pub fn table_row(self) -> &'static str
         ensures { result.now ≡ table_row self.locked self.read self.write self.execute }
     {
@@ -72,7 +72,7 @@ impl RuleBits {
     }
 }
 
-/// The bits of an entry.
+/// Returns the bits of an entry.
 fn rule_bits(file: &RegFile, entry: u8) -> RuleBits
     requires { entry < length file.now.entries }
     ensures { result ≡ rule_bits (entry_at file.now.entries entry).configuration }
@@ -87,7 +87,7 @@ fn rule_bits(file: &RegFile, entry: u8) -> RuleBits
     }
 }
 
-/// The line that changed the low end of the entry's range last, where it has one of another entry.
+/// Returns the line that last changed the low end of the entry's range, if another entry defines it.
 fn low_end_line(script: &Script<'_>, done: u64, entry: u8, matching: AddressMatching) -> Option<u64>
     requires within { done ≤ length script.now.batches }
     requires entry { entry < MAX_ENTRIES }
@@ -103,7 +103,7 @@ fn low_end_line(script: &Script<'_>, done: u64, entry: u8, matching: AddressMatc
 }
 
 impl Decider {
-    /// The entry in this register file, which the script's first `done` publications leave.
+    /// Returns the entry in this register file, which the script's first `done` publications leave.
     pub(crate) fn decode(script: &Script<'_>, done: u64, file: &RegFile, entry: u8) -> Decider
         requires within { done ≤ length script.now.batches }
         requires file { file.now ≡ file_of_script script.now done }

@@ -1,4 +1,4 @@
-//! What is found in the register file that a script leaves.
+//! Findings in the register file that a script leaves.
 
 ghost use Rattle.std.specs.Prelude.{◌≡◌, ◌<◌, ◌≤◌, length};
 ghost use Rattle.pmp_map.specs.Runs.{AreRuns};
@@ -17,7 +17,7 @@ use pmp_core::{AddressMatching, Lock, RegFile, Registers};
 use pmp_map::Run;
 use pmp_text::Script;
 
-/// A script, and what it leaves.
+/// A script, and the registers that it leaves.
 #[derive(Clone, Copy)]
 pub struct Ended<'a> {
     pub script: &'a Script<'a>,
@@ -26,7 +26,7 @@ pub struct Ended<'a> {
     pub ghost ended: { file.now ≡ end_of script.now },
 }
 
-/// The finding, where it is one.
+/// Returns the finding, if it is one.
 pub fn found_if(is: bool, finding: Finding) -> Option<Finding>
     ensures { result ≡ found_if is finding }
 {
@@ -59,7 +59,7 @@ fn is_mmwp_off(file: &RegFile) -> bool
     has_mml(file) && !has_mmwp(file)
 }
 
-/// Whether the entry with this number or one behind it is frozen.
+/// Whether the entry with this number or a later one is frozen.
 fn is_any_frozen_from(file: &RegFile, first: u8) -> bool
     requires { first ≤ length file.now.entries }
     ensures { result ≡ is_any_frozen_from file.now first }
@@ -103,7 +103,7 @@ fn is_idle(file: &RegFile, runs: &[Run], entry: u8) -> bool
 }
 
 impl<'a> Ended<'a> {
-    /// The line of the last event that changes the subject, or 0.
+    /// Returns the line of the last event that changes the subject, or 0.
     pub fn changed_last(&self, subject: Subject) -> u64
         requires { IsSubject subject }
         ensures { result ≡ changed_last self.now.script.now subject }
@@ -111,7 +111,7 @@ impl<'a> Ended<'a> {
         changed_at(self.script, self.script.batches(), subject)
     }
 
-    /// RLB is set and an entry is locked.
+    /// Reports that RLB is set and an entry is locked.
     pub fn rlb_left_on(&self) -> Option<Finding>
         ensures { result ≡ rlb_left_on self.now.script.now }
     {
@@ -122,7 +122,7 @@ impl<'a> Ended<'a> {
         Some(Finding::about_script(Lint::RlbLeftOn, line))
     }
 
-    /// MML is set and MMWP isn't.
+    /// Reports that MML is set and MMWP isn't.
     pub fn mmwp_off(&self) -> Option<Finding>
         ensures { result ≡ mmwp_off self.now.script.now }
     {
@@ -143,7 +143,7 @@ impl<'a> Ended<'a> {
         Finding::about_entry(lint, line, entry, bytes)
     }
 
-    /// The entry isn't frozen and a later one is.
+    /// Reports that the entry isn't frozen and a later one is.
     pub fn open_before_locked(&self, entry: u8) -> Option<Finding>
         requires { entry < length self.now.file.now.entries }
         ensures { result ≡ open_before_locked self.now.script.now entry }
@@ -155,7 +155,7 @@ impl<'a> Ended<'a> {
         }
     }
 
-    /// The entry is on and owns none of these runs, which are the file's.
+    /// Reports that the entry is on and owns none of these runs, which are the file's.
     pub fn never_decides(&self, runs: &[Run], entry: u8) -> Option<Finding>
         requires { entry < length self.now.file.now.entries }
         ensures { result ≡ never_decides self.now.script.now runs.now entry }

@@ -14,7 +14,7 @@ use std::fmt;
 #[derive(Clone, Copy, Debug, PartialEq, Eq)]
 pub struct Finding {
     pub lint: Lint,
-    /// The line of the write that it is about: the last one that changed the entry or the bit. 0 where none did.
+    /// The line of the write that it is about: the last one that changed the entry or the bit. 0 if none did.
     pub line: u64,
     /// The entry that it is about, if any.
     pub entry: Option<u8>,
@@ -32,7 +32,7 @@ pub const NO_MODES: Modes = Modes {
 };
 
 impl Finding {
-    /// One about the script as a whole.
+    /// Returns a finding about the script as a whole.
     pub(crate) fn about_script(lint: Lint, line: u64) -> Finding
         ensures { result ≡ about_script lint line }
     {
@@ -45,7 +45,7 @@ impl Finding {
         }
     }
 
-    /// One about an entry, perhaps with bytes.
+    /// Returns a finding about an entry, perhaps with bytes.
     pub(crate) fn about_entry(lint: Lint, line: u64, entry: u8, bytes: Option<Span>) -> Finding
         ensures { result ≡ about_entry lint line entry bytes }
     {
@@ -74,7 +74,7 @@ impl fmt::Display for Entry {
     }
 }
 
-/// The fields of bytes, which are empty where there are none.
+/// The fields of bytes, which are empty if there are none.
 #[derive(Clone, Copy)]
 pub struct Bytes(pub Option<Span>);
 
@@ -92,7 +92,7 @@ impl fmt::Display for Bytes {
     }
 }
 
-/// The letter of a mode, or nothing.
+/// Returns the letter of a mode, or nothing.
 fn letter(has: bool, letter: &'static str) -> &'static str
     ensures { result.now ≡ letter_text has letter.now }
 {
@@ -118,7 +118,7 @@ impl fmt::Display for Finding {
     }
 }
 
-/// Adds a finding, where there is one.
+/// Adds a finding, if there is one.
 pub fn add(found: &mut Vec<Finding>, finding: Option<Finding>) -> Result<(), AllocError>
     ensures { OnOk result (found.new.items ≡ found.old.items ++ option_to_list finding) }
 {

@@ -1,4 +1,4 @@
-//! Writes that a frozen entry turns away.
+//! Writes that a frozen entry rejects.
 
 ghost use Rattle.std.specs.Prelude.{◌≡◌, ◌++◌, ◌<◌, OnOk, fold, length};
 ghost use Rattle.std.specs.List.{flat_map};
@@ -14,7 +14,7 @@ use pmp_core::{Event, RegFile};
 use pmp_text::Script;
 use std::alloc::AllocError;
 
-/// An event, with the register file that it comes to, and the number of its line.
+/// An event, with the register file that it meets, and its line number.
 #[derive(Clone, Copy)]
 struct Happening<'a> {
     before: &'a RegFile,
@@ -49,7 +49,7 @@ impl<'a> Happening<'a> {
         found_if(self.is_late(entry), finding)
     }
 
-    /// Adds a finding for each entry that turns the write away.
+    /// Adds a finding for each entry that rejects the write.
     fn add_late_writes(&self, found: &mut Vec<Finding>) -> Result<(), AllocError>
         ensures { OnOk result (found.new.items ≡ found.old.items ++ late_writes_of (record {
           before = self.now.before.now;
@@ -64,7 +64,7 @@ impl<'a> Happening<'a> {
     }
 }
 
-/// Adds what is found of these events, which stand in these lines, and does them.
+/// Adds the findings for these events, which are in these lines, and executes them.
 fn add_of_publication(
     found: &mut Vec<Finding>,
     file: &mut RegFile,
@@ -88,7 +88,7 @@ fn add_of_publication(
     Ok(())
 }
 
-/// Adds a finding for each write of the script, and each entry that turns it away since it is frozen.
+/// Adds a finding for each write of the script, and each entry that rejects it because it is frozen.
 pub fn add_late_writes(found: &mut Vec<Finding>, script: &Script<'_>) -> Result<(), AllocError>
     ensures { OnOk result (found.new.items ≡ found.old.items
         ++ late_writes script.now (length script.now.batches)) }

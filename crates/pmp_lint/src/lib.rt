@@ -1,4 +1,4 @@
-//! What an experienced reader would remark of a script, and why an access is decided as it is.
+//! The remarks of an experienced reader about a script, and the reasons why an access is decided as it is.
 #![tactic(auto)]
 
 mod accepted;

@@ -1,25 +1,25 @@
-//! The lints: what a script is looked at for.
+//! The lints: what a script is checked for.
 
 ghost use Rattle.std.specs.Prelude.{◌≡◌};
 ghost use Rattle.pmp_lint.specs.Lints.{lint_named, lint_name, lint_number, remedy_text};
 
-/// What a script is looked at for. The names and the numbers stay as they are.
+/// What a script is checked for. The names and the numbers never change.
 #[derive(Clone, Copy, Debug, PartialEq, Eq)]
 pub enum Lint {
-    /// An entry is locked in the end and RLB is set, so that no lock holds.
+    /// An entry is locked in the end and RLB is set, so that no lock has an effect.
     RlbLeftOn,
-    /// MML is set in the end and MMWP isn't, so that machine mode may read and write where no entry matches.
+    /// MML is set in the end and MMWP isn't, so that M-mode may read and write if no entry matches.
     MmwpOff,
-    /// In the end an entry that isn't frozen stands before one that is, and may still take bytes from it.
+    /// In the end an entry that isn't frozen precedes one that is, and may still take bytes from it.
     OpenBeforeLocked,
     /// In the end an entry is on and owns no byte: it matches none, or entries before it have them all.
     NeverDecides,
     /// Bytes that a mode may both write and execute in the end.
     WriteAndExecute,
-    /// Bytes that S and U may use in a way after a single write that they may not use so before its publication, nor
-    /// after it.
+    /// Bytes that S and U may use, after a single write, in a way in which they may use them neither before its
+    /// publication nor after it.
     OpenBetween,
-    /// A write that an entry turns away since it is frozen.
+    /// A write that an entry rejects because it is frozen.
     LateWrite,
 }
 
@@ -35,7 +35,7 @@ impl Lint {
         Lint::LateWrite,
     ];
 
-    /// Its number, from 1 on.
+    /// Returns its number, from 1.
     pub fn number(self) -> u8
         ensures { result ≡ lint_number self }
     {
@@ -50,7 +50,7 @@ impl Lint {
         }
     }
 
-    /// Its name.
+    /// Returns its name.
     pub fn name(self) -> &'static str
         ensures { result.now ≡ lint_name self }
     {
@@ -65,7 +65,7 @@ impl Lint {
         }
     }
 
-    /// What mends it, as a sentence.
+    /// Returns its remedy, as a sentence.
     pub fn remedy(self) -> &'static str
         ensures { result.now ≡ remedy_text self }
     {
@@ -84,7 +84,7 @@ impl Lint {
         }
     }
 
-    /// The lint that a word names.
+    /// Returns the lint that a word names.
     #[tactic(auto, unfolding(crate::specs::Lints::lint_named))]
     pub fn read(word: &[u8]) -> Option<Lint>
         ensures { result ≡ lint_named word.now }

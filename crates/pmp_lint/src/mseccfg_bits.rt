@@ -4,21 +4,21 @@ ghost use Rattle.std.specs.Prelude.{◌≡◌};
 
 use pmp_core::{Csr, RegFile};
 
-/// MML.
+/// Whether MML is set.
 pub fn has_mml(file: &RegFile) -> bool
     ensures { result ≡ file.now.mseccfg.mml }
 {
     file.read(Csr::Mseccfg) % 2 == 1
 }
 
-/// MMWP.
+/// Whether MMWP is set.
 pub fn has_mmwp(file: &RegFile) -> bool
     ensures { result ≡ file.now.mseccfg.mmwp }
 {
     file.read(Csr::Mseccfg) / 2 % 2 == 1
 }
 
-/// RLB.
+/// Whether RLB is set.
 pub fn has_rlb(file: &RegFile) -> bool
     ensures { result ≡ file.now.mseccfg.rlb }
 {

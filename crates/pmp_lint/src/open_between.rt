@@ -18,7 +18,7 @@ use pmp_text::{Modes, Script};
 use std::alloc::AllocError;
 
 impl Stretch {
-    /// A finding, where its bytes are opened by the write in this line.
+    /// Returns a finding, if its bytes are opened by the write in this line.
     fn open_between(&self, line: u64) -> Option<Finding>
         ensures { result ≡ open_between line self.now }
     {
@@ -56,7 +56,7 @@ impl<'a> Between<'a> {
     }
 }
 
-/// Adds what is found of these events, which are a publication and stand in these lines, and does them.
+/// Adds the findings for these events, which are a publication and are in these lines, and executes them.
 fn add_of_publication(
     found: &mut Vec<Finding>,
     file: &mut RegFile,

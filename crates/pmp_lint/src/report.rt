@@ -1,4 +1,4 @@
-//! All findings of a script, and the text that tells them.
+//! All findings of a script, and their text.
 
 ghost use Rattle.std.specs.Prelude.{◌≡◌, ◌++◌, ◌<◌, IfErr, IfOk, OnErr, OnOk, length};
 ghost use Rattle.std.specs.Io.{StartsWith};
@@ -17,7 +17,7 @@ use pmp_map::{Run, RunMap};
 use pmp_text::{EventLog, NoMemory, Script, ScriptFault, Sink, append_line, read_script};
 use std::alloc::{AllocError, Global};
 
-/// The register file after all publications.
+/// Returns the register file after all publications.
 fn end_of(script: &Script<'_>) -> RegFile
     ensures { result ≡ end_of script.now }
 {
@@ -64,7 +64,7 @@ impl<'a> Ended<'a> {
     }
 }
 
-/// What is found in a script, lint after lint in the order of their numbers.
+/// Returns the findings in a script, lint by lint in the order of their numbers.
 pub fn find(alloc: Global, script: &Script<'_>) -> Result<Vec<Finding>, AllocError>
     ensures { IfOk result (λ found. AreFindings script.now found.items) }
 {
@@ -82,7 +82,7 @@ pub fn find(alloc: Global, script: &Script<'_>) -> Result<Vec<Finding>, AllocErr
     Ok(found)
 }
 
-/// Appends the rows of the findings that aren't accepted, or a part of them, and answers how many these are.
+/// Appends the rows of the findings that aren't accepted, or a part of them, and returns the number of these findings.
 fn write_told<S: Sink>(
     out: &mut S,
     findings: &[Finding],
@@ -103,11 +103,11 @@ fn write_told<S: Sink>(
 }
 
 /// Appends a row for each of these findings that isn't accepted, `NUMBER,NAME,LINE,ENTRY,FIRST,LAST,MODES` and LF, and
-/// answers how many rows these are.
+/// returns the number of rows.
 ///
 /// NUMBER and NAME are the lint's. LINE is that of the write that it is about, or 0. ENTRY is an entry's number, FIRST
 /// and LAST are the first and the last byte in fourteen hexadecimal digits, and MODES are letters of `M`, `S` and `U`,
-/// each of them empty where the finding is about none.
+/// each of them empty if the finding is about none.
 pub fn append_findings<S: Sink>(
     out: &mut S,
     findings: &[Finding],
@@ -125,11 +125,11 @@ pub fn append_findings<S: Sink>(
     told
 }
 
-/// Appends these rows for a script's text: what is found in it, lint after lint in the order of their numbers, but for
-/// what is accepted. Answers how many rows these are.
+/// Appends these rows for a script's text: its findings, lint by lint in the order of their numbers, except accepted
+/// ones. Returns the number of rows.
 ///
-/// The script's events are kept in the log, which forgets what it had. A refusal, the script's own fault or `Memory`,
-/// appends nothing.
+/// The log keeps the script's events, and forgets what it had. If it is refused, by the script's own fault or `Memory`,
+/// nothing is appended.
 pub fn append_lint<L: EventLog, S: Sink>(
     alloc: Global,
     log: &mut L,

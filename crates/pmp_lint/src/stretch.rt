@@ -1,4 +1,4 @@
-//! Ranges of bytes that a single write opens to S and U, between what a publication leaves and what was before it.
+//! Ranges of bytes that a single write opens to S and U, though they are closed before and after its publication.
 
 ghost use Rattle.std.specs.Prelude.{◌≡◌, ◌<◌, ◌≤◌, ℕ, IsTrue};
 ghost use Rattle.pmp_core.specs.declared.access.TheConstants.{ADDRESS_LIMIT};
@@ -7,7 +7,7 @@ ghost use Rattle.pmp_lint.specs.OpenBetween.{IsOpened, IsStretch, opens, opens_k
 use pmp_core::{ADDRESS_LIMIT, Kind, Perms, Registers};
 use pmp_map::{ModeRights, run_around};
 
-/// Bytes side by side that all are opened, or of which none is.
+/// Contiguous bytes that are all opened, or none of which is.
 #[derive(Clone, Copy, Debug, PartialEq, Eq)]
 pub struct Stretch {
     /// The byte address of its first byte.
@@ -50,7 +50,7 @@ impl Stretch {
 }
 
 impl<'a> Between<'a> {
-    /// The bytes from `first` on that have one owner in each of the three.
+    /// Returns the bytes from `first` on that have one owner in each of the three.
     fn owned_from(&self, first: u64) -> Stretch
         requires { first < ADDRESS_LIMIT }
         ensures begins { result.first ≡ first }
@@ -72,7 +72,7 @@ impl<'a> Between<'a> {
         }
     }
 
-    /// The longest range from `first` on whose bytes all are opened, or of which none is.
+    /// Returns the longest range from `first` on whose bytes are all opened, or none of which is.
     pub fn stretch_from(&self, first: u64) -> Stretch
         requires { first < ADDRESS_LIMIT }
         ensures begins { result.first ≡ first }

@@ -1,4 +1,4 @@
-//! What the events of a script change.
+//! The parts of the registers that events change.
 
 ghost use Rattle.std.specs.Prelude.{◌≡◌, ◌<◌};
 ghost use Rattle.pmp_core.specs.declared.size.TheConstants.{MAX_ENTRIES};
@@ -9,7 +9,7 @@ use crate::entry_numbers::{address_at, byte_at};
 use crate::mseccfg_bits::{has_mml, has_mmwp, has_rlb};
 use pmp_core::RegFile;
 
-/// What an event may change.
+/// A part of the registers that an event may change.
 #[derive(Clone, Copy)]
 pub enum Subject {
     /// RLB.
@@ -25,7 +25,7 @@ pub enum Subject {
 }
 
 impl Subject {
-    /// Whether it is another in the second register file than in the first.
+    /// Whether it differs between the two register files.
     pub fn differs(self, before: &RegFile, after: &RegFile) -> bool
         requires { IsSubject self }
         ensures { result ≡ differs self before.now after.now }

@@ -1,4 +1,4 @@
-//! The lines of the events that change something.
+//! The lines of the events that change a subject.
 
 ghost use Rattle.std.specs.Prelude.{◌≡◌, ◌≤◌, fold, length, slice_index};
 ghost use Rattle.pmp_core.specs.RegisterWrite.{step};
@@ -9,14 +9,14 @@ use crate::subject::Subject;
 use pmp_core::{Event, RegFile};
 use pmp_text::Script;
 
-/// The register file as a script's events are done, and the line of the last of them that changed a subject.
+/// The register file as a script's events are executed, and the line of the last of them that changed a subject.
 #[derive(Clone, Copy)]
 struct Trail {
     file: RegFile,
     line: u64,
 }
 
-/// The line in this place.
+/// Returns the line at this index.
 pub fn line_at(lines: &[u64], place: usize) -> u64
     ensures { result ≡ slice_index lines.now place }
 {
@@ -24,7 +24,7 @@ pub fn line_at(lines: &[u64], place: usize) -> u64
 }
 
 impl Trail {
-    /// After these events, which stand in these lines.
+    /// Returns the trail after these events, which are in these lines.
     fn after(self, subject: Subject, events: &[Event], lines: &[u64]) -> Trail
         requires { IsSubject subject }
         ensures file { result.file ≡ fold step self.file events.now }
@@ -43,7 +43,7 @@ impl Trail {
     }
 }
 
-/// The line of the last event of the script's first `count` publications that changes the subject, 0 where none does.
+/// Returns the line of the last event in the script's first `count` publications that changes the subject, 0 if none.
 pub fn changed_at(script: &Script<'_>, count: u64, subject: Subject) -> u64
     requires subject { IsSubject subject }
     requires within { count ≤ length script.now.batches }

@@ -1,4 +1,4 @@
-//! Answers as numbers.
+//! The numbers that encode answers.
 
 ghost use Rattle.std.specs.Prelude.{◌≡◌, ◌+◌, ◌*◌, ◌≤◌};
 ghost use Rattle.pmp_core.specs.FaultCode.{access_fault_code};
@@ -9,10 +9,10 @@ ghost use Rattle.pmp_map.specs.Answer.{cause_number, number_by, answer_number, n
 
 use pmp_core::{Access, Cause, Decision, Kind};
 
-/// What decides where the numbers name no access.
+/// The number of the cause if the numbers name no access.
 pub const NO_CAUSE: u16 = 1023;
 
-/// The answer where the numbers name no access, of which this is the kind's.
+/// Returns the answer for numbers of this kind that name no access.
 #[cold]
 pub fn no_access(kind: u32) -> u16
     ensures { result ≡ no_access kind }
@@ -24,7 +24,7 @@ pub fn no_access(kind: u32) -> u16
     }
 }
 
-/// The number of what decides.
+/// Returns the number of what decides.
 pub fn cause_number(cause: Cause) -> u16
     ensures number { result ≡ cause_number cause }
     ensures most { result ≤ 512 }
@@ -36,7 +36,7 @@ pub fn cause_number(cause: Cause) -> u16
     }
 }
 
-/// The number of an answer to an access of this kind.
+/// Returns the number of an answer to an access of this kind.
 pub fn number_by(kind: Kind, cause: Cause, allowed: bool) -> u16
     ensures { result ≡ number_by kind cause allowed }
 {
@@ -48,14 +48,14 @@ pub fn number_by(kind: Kind, cause: Cause, allowed: bool) -> u16
     }
 }
 
-/// The number that answers the access.
+/// Returns the number of the answer to the access.
 pub fn answer_number(access: &Access, decision: &Decision) -> u16
     ensures { result ≡ answer_number access.now decision.now }
 {
     number_by(access.kind, decision.cause, decision.allowed)
 }
 
-/// The number that refuses an access of this kind which is split by the entry with this number.
+/// Returns the number that refuses an access of this kind because this entry splits it.
 pub fn split_number(kind: Kind, entry: u16) -> u16
     requires { entry ≤ 512 }
     ensures { result ≡ 256 + entry + 1024 * access_fault_code kind }
@@ -63,7 +63,7 @@ pub fn split_number(kind: Kind, entry: u16) -> u16
     256 + entry + 1024 * u16::from(kind.access_fault_code())
 }
 
-/// The decision that this number answers.
+/// Returns the decision that this number encodes.
 #[inline(always)]
 pub fn decision(number: u16) -> Decision
     ensures { (access : Access) (decision : Decision) → IsByteCause decision.cause

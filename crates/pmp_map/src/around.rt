@@ -8,8 +8,8 @@ ghost use Rattle.pmp_map.specs.Runs.{IsRunAround};
 use crate::run::Run;
 use pmp_core::{ADDRESS_LIMIT, Registers};
 
-/// All bytes round this one that have its owner: between the changes of owner before and after it. For a few bytes of a
-/// register file this is less work than its map.
+/// Returns all bytes around this one that have its owner: between the changes of owner before and after it. For a few
+/// bytes of a register file this is less work than building its map.
 pub fn run_around(registers: &Registers<'_>, byte: u64) -> Run
     requires { byte < ADDRESS_LIMIT }
     ensures run { IsRunAround registers.now byte result }

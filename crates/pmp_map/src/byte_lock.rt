@@ -1,4 +1,4 @@
-//! How what owns bytes is locked.
+//! How the owner of bytes is locked.
 
 ghost use Rattle.std.specs.Prelude.{◌≡◌, ◌<◌, IfSome, length};
 ghost use Rattle.pmp_map.specs.ByteLocks.{entry_lock, lock_by};
@@ -11,15 +11,15 @@ use pmp_core::{Lock, Registers};
 pub enum ByteLock {
     /// Its lock bit is clear, or there is no owner and some entry isn't frozen.
     Open,
-    /// Its lock bit is set, but rule-locking bypass is on.
+    /// Its lock bit is set, but so is RLB.
     Bypassed,
     /// It is frozen, and an entry before it isn't.
     Frozen,
-    /// It is frozen with all entries before it, or there is no owner and all entries are frozen.
+    /// It and all entries before it are frozen, or there is no owner and all entries are frozen.
     Held,
 }
 
-/// How bytes are locked that an entry owns which isn't held.
+/// Returns the lock of bytes whose owner is an entry that isn't held.
 fn entry_lock(lock: Lock) -> ByteLock
     ensures { result ≡ entry_lock lock }
 {
@@ -31,7 +31,7 @@ fn entry_lock(lock: Lock) -> ByteLock
 }
 
 impl ByteLock {
-    /// Where this entry owns, or none.
+    /// Returns the lock of bytes that this entry owns, or none.
     pub fn of_owner(registers: &Registers<'_>, owner: Option<u8>) -> ByteLock
         requires { IfSome owner (λ entry. entry < length registers.now.entries) }
         ensures { result ≡ lock_by registers.now owner }

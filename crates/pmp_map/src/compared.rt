@@ -1,4 +1,4 @@
-//! What two register files say of the same bytes.
+//! What two register files say about the same bytes.
 
 ghost use Rattle.std.specs.Prelude.{◌≡◌, ◌<◌, IfSome, length};
 ghost use Rattle.pmp_map.specs.ComparedRuns.{compared_by};
@@ -7,7 +7,7 @@ use crate::byte_lock::ByteLock;
 use crate::mode_rights::ModeRights;
 use pmp_core::Registers;
 
-/// What of their bytes two register files are compared by.
+/// The aspect by which two register files are compared.
 #[derive(Clone, Copy, Debug, PartialEq, Eq)]
 pub enum Aspect {
     /// What they let the modes do.
@@ -16,7 +16,7 @@ pub enum Aspect {
     Locks,
 }
 
-/// What an old register file says of bytes, and what a new one says.
+/// What an old register file says about bytes, and what a new one says.
 #[derive(Clone, Copy, Debug, PartialEq, Eq)]
 pub enum Compared {
     Rights(ModeRights, ModeRights),
@@ -24,7 +24,7 @@ pub enum Compared {
 }
 
 impl Compared {
-    /// Where the one entry owns in the old file, or none, and the other in the new.
+    /// Compares bytes owned by these entries, if any, in the old and the new file.
     pub fn of_owners(
         aspect: Aspect,
         old: &Registers<'_>,

@@ -1,4 +1,4 @@
-//! The ranges of bytes of which each of two register files says the same.
+//! The ranges of bytes that each of two register files treats alike.
 
 ghost use Rattle.std.specs.Prelude.{◌≡◌, ◌<◌, ◌≤◌, ℕ, IsTrue};
 ghost use Rattle.pmp_core.specs.declared.access.TheConstants.{ADDRESS_LIMIT};
@@ -8,19 +8,19 @@ use crate::around::run_around;
 use crate::compared::{Aspect, Compared};
 use pmp_core::{ADDRESS_LIMIT, Registers};
 
-/// Bytes that lie side by side, and of which each of two register files says the same.
+/// Contiguous bytes that each of two register files treats alike.
 #[derive(Clone, Copy, Debug, PartialEq, Eq)]
 pub struct ComparedRun {
     /// The byte address of its first byte.
     pub first: u64,
     /// The byte address of its last byte.
     pub last: u64,
-    /// What the files say of each of them.
+    /// What the files say about each of them.
     pub both: Compared,
 }
 
 impl ComparedRun {
-    /// Whether the files say in both what they say in one.
+    /// Whether both files say the same here as there.
     fn is_alike(&self, other: &ComparedRun) -> bool
         ensures yes { IsTrue result → self.now.both ≡ other.now.both }
         ensures no { self.now.both ≡ other.now.both → IsTrue result }
@@ -29,7 +29,7 @@ impl ComparedRun {
     }
 }
 
-/// The bytes from `first` on that have one owner in the old file, and one in the new.
+/// Returns the bytes from `first` on that have one owner in the old file and one in the new.
 fn owned_from(aspect: Aspect, old: &Registers<'_>, new: &Registers<'_>, first: u64) -> ComparedRun
     requires { first < ADDRESS_LIMIT }
     ensures begins { result.first ≡ first }
@@ -47,8 +47,8 @@ fn owned_from(aspect: Aspect, old: &Registers<'_>, new: &Registers<'_>, first: u
     }
 }
 
-/// The longest range of bytes from the byte address `first` on of which each of the files says the same. The files may
-/// be of different harts. From the byte behind its last one the next range goes on, up to `2^56 - 1`.
+/// Returns the longest range of bytes from the byte address `first` on that each file treats alike. The files may be of
+/// different harts. The next range begins after its last byte, up to `2^56 - 1`.
 pub fn compared_run_from(
     aspect: Aspect,
     old: &Registers<'_>,

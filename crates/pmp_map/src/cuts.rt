@@ -1,4 +1,4 @@
-//! Cuts, where bytes of another owner begin, one upon the other.
+//! Stacks of cuts, the places where bytes of another owner begin.
 
 ghost use Rattle.std.specs.Prelude.{◌≡◌, ◌<◌, ◌≤◌, [], ◌∷◌, MatchOption, false, length};
 ghost use Rattle.pmp_map.specs.Painting.{is_below, is_from, owner_of, start_of};
@@ -7,7 +7,7 @@ use crate::run::RUNS;
 use pmp_core::ADDRESS_LIMIT;
 use std::marker::Model;
 
-/// Where bytes of another owner begin.
+/// A place where bytes of another owner begin.
 #[derive(Clone, Copy, Debug, PartialEq, Eq)]
 pub struct Cut {
     /// The byte address of the first of them.
@@ -15,7 +15,7 @@ pub struct Cut {
     pub owner: Option<u8>,
 }
 
-/// Some of the cuts of all bytes, side by side. A contract sees the list, with the last that was pushed first.
+/// Some of the cuts of all bytes, in order. A contract sees the list, the last pushed first.
 #[derive(Drop)]
 pub struct Cuts {
     cuts: [Cut; RUNS],
@@ -43,7 +43,7 @@ impl Cuts {
         count: 0,
     };
 
-    /// The one of all bytes, which nobody owns.
+    /// The cut that begins all bytes, without an owner.
     pub const BLANK: Cuts = Cuts {
         count: 1,
         ..Cuts::EMPTY
@@ -57,7 +57,7 @@ impl Cuts {
         self.count += 1;
     }
 
-    /// Takes the first away, if there is one and it begins at the byte or above.
+    /// Removes the first cut, if there is one and it begins at or above the byte.
     pub fn pop_from(&mut self, byte: u64) -> Option<Cut>
         ensures { MatchOption result ((is_from byte self.old ≡ false) × (self.new ≡ self.old))
             (λ cut. (self.old ≡ cut ∷ self.new) × (byte ≤ cut.start)) }
@@ -69,7 +69,7 @@ impl Cuts {
         Some(self.cuts[self.count])
     }
 
-    /// Takes the first away, if there is one and it begins below the byte.
+    /// Removes the first cut, if there is one and it begins below the byte.
     pub fn pop_below(&mut self, byte: u64) -> Option<Cut>
         ensures { MatchOption result ((is_below byte self.old ≡ false) × (self.new ≡ self.old))
             (λ cut. (self.old ≡ cut ∷ self.new) × (cut.start < byte)) }
@@ -81,7 +81,7 @@ impl Cuts {
         Some(self.cuts[self.count])
     }
 
-    /// Where the first begins; where there is none, the end of all bytes.
+    /// Returns where the first cut begins, or the end of all bytes if there is none.
     pub fn start(&self) -> u64
         ensures { result ≡ start_of self.now }
     {
@@ -92,7 +92,7 @@ impl Cuts {
         }
     }
 
-    /// The first one's owner.
+    /// Returns the owner of the first cut.
     pub fn owner(&self) -> Option<u8>
         ensures { result ≡ owner_of self.now }
     {

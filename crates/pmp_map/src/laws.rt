@@ -13,44 +13,44 @@ ghost use Rattle.pmp_map.specs.AnswerLaw.{AnswerLaw, NoAccessLaw, NoAccessFaultL
 
 use pmp_core::laws::{law_matching_entry, law_protected};
 
-/// Entries have one list of runs.
+/// Entries have exactly one list of runs.
 pub fn law_one_list_of_runs()
     ensures { (file : RegisterFile) (one other : List Run) → AreRuns file one → AreRuns file other
         → one ≡ other }
 {}
 
-/// Each entry adds at most two cuts, so that there is at most one run more than twice as many as entries.
+/// Each entry adds at most two cuts, so there is at most one more run than twice the number of entries.
 #[tactic(auto, using(crate::proofs::Entries::few_runs_of_entries))]
 pub fn law_few_runs()
     ensures { (file : RegisterFile) (runs : List Run) → HasAddresses file → AreRuns file runs
         → length runs ≤ 2 * length file.entries + 1 }
 {}
 
-/// An access inside one run is decided by the rule of the run's owner, or as where no entry matches.
+/// An access inside one run is decided by the rule of the run's owner, or, without an owner, as if no entry matches.
 pub fn law_inside_run()
     ensures { InsideRunLaw }
 {}
 
-/// An access from one run into a later one is refused, as a partial match of the least owner from the one to the other.
+/// An access from one run into a later one is refused, as a partial match of the lowest owner of all runs it touches.
 #[tactic(auto, using(crate::proofs::DecidedRuns::across_runs))]
 pub fn law_across_runs()
     ensures { AcrossRunsLaw }
 {}
 
-/// Two register files have one list of longest ranges of bytes of which each of them says the same.
+/// Two register files have exactly one list of longest ranges of bytes that each of them treats alike.
 pub fn law_one_list_of_compared_runs()
     ensures { (aspect : Aspect) (old new : RegisterFile) (one other : List ComparedRun)
         → AreComparedRuns aspect old new one → AreComparedRuns aspect old new other → one ≡ other }
 {}
 
-/// A byte is open to what its owner's rule allows, or the default where it has no owner, and to nothing else.
+/// A byte is open to what its owner's rule allows, or the default if it has no owner, and to nothing else.
 pub fn law_open_byte()
     ensures answered { OpenByteLaw }
     ensures once { OneAnswerLaw }
 {}
 
-/// A held byte that is closed to a mode and a kind stays closed to them through every list of writes: one whose owner
-/// is frozen with all entries before it, or that no entry matches, where all are frozen.
+/// A held byte that is closed to a mode and a kind stays closed to them through every list of writes. Its owner and all
+/// entries before it are frozen, or no entry matches it and all entries are frozen.
 pub fn law_held_byte()
     ensures { HeldByteLaw }
 {
@@ -58,9 +58,9 @@ pub fn law_held_byte()
     law_protected();
 }
 
-/// Different decisions on one access are answered by different numbers, and none by one of no access, whose fault has
-/// the code of its kind. A number is below 1,024 exactly where the access is allowed; divided by 1,024 it gives the
-/// code of the fault, and what decided is left.
+/// Different decisions on one access have different numbers, none of which is that of no access, a fault with the code
+/// of its kind. A number is below 1,024 exactly if the access is allowed; divided by 1,024 it gives the code of the
+/// fault, and the remainder is what decided.
 #[tactic(auto, using(crate::proofs::Numbering::answer_laws))]
 pub fn law_answers()
     ensures different { AnswerLaw }

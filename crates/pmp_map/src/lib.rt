@@ -1,9 +1,9 @@
 //! The interval map of a PMP register file: the runs of bytes that one entry owns, and decisions by them.
 //!
-//! `Tables` is the map, in plain numbers: where each run begins, and what it answers. `RunMap` is that of a register
+//! `Tables` is the map in plain numbers: where each run begins, and its answers. `RunMap` is the map of a register
 //! file, which a contract sees. The definitions that the contracts cite are in `specs/` and in those of `pmp_core`.
 //!
-//! An answer is a number: `i` for the rule of entry `i`, 256 + `i` for a split by entry `i`, 512 where no entry
+//! An answer is a number: `i` for the rule of entry `i`, 256 + `i` for a split by entry `i`, 512 if no entry
 //! matches, and 1,024 times the exception code of a refusal.
 #![tactic(auto)]
 

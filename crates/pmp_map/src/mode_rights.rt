@@ -1,4 +1,4 @@
-//! What the owner of a byte gives the modes.
+//! The rights that the owner of a byte gives each mode.
 
 ghost use Rattle.std.specs.Prelude.{◌≡◌, ◌<◌, IfSome, length};
 ghost use Rattle.pmp_core.specs.Rights.{perms_of};
@@ -6,14 +6,14 @@ ghost use Rattle.pmp_map.specs.Answers.{kept_rights, owned_rights, rights_by, wh
 
 use pmp_core::{Cause, Mode, Perms, Registers};
 
-/// What decides an access whose bytes all have this owner.
+/// Returns what decides an access whose bytes all have this owner.
 pub fn whole_cause(owner: Option<u8>) -> Cause
     ensures { result ≡ whole_cause owner }
 {
     owner.map_or(Cause::NoMatch, Cause::Rule)
 }
 
-/// What the owner of a byte gives the mode there, or what the mode may do where there is none.
+/// Returns what the owner of a byte gives the mode, or what the mode may do without an owner.
 #[inline(always)]
 fn owned_rights(registers: &Registers<'_>, owner: Option<u8>, mode: Mode) -> Perms
     requires { IfSome owner (λ entry. entry < length registers.now.entries) }
@@ -28,14 +28,14 @@ fn owned_rights(registers: &Registers<'_>, owner: Option<u8>, mode: Mode) -> Per
 /// What a register file lets the modes do with a byte.
 #[derive(Clone, Copy, Debug, PartialEq, Eq)]
 pub struct ModeRights {
-    /// What machine mode may do.
+    /// What M-mode may do.
     pub machine: Perms,
-    /// What supervisor and user mode may do, which have the same rights.
+    /// What S-mode and U-mode may do, which have the same rights.
     pub others: Perms,
 }
 
 impl ModeRights {
-    /// Where this entry owns, or none.
+    /// Returns the rights where this entry owns the byte, or none does.
     #[inline]
     pub fn of_owner(registers: &Registers<'_>, owner: Option<u8>) -> ModeRights
         requires { IfSome owner (λ entry. entry < length registers.now.entries) }
@@ -47,7 +47,7 @@ impl ModeRights {
         }
     }
 
-    /// What the mode may do.
+    /// Returns what the mode may do.
     pub fn of(&self, mode: Mode) -> Perms
         ensures { result ≡ kept_rights self.now mode }
     {

@@ -11,8 +11,8 @@ ghost use Rattle.pmp_map.specs.Painting.{AreUp, ArePainted, is_from, start_of};
 use crate::cuts::{Cut, Cuts};
 use pmp_core::{ADDRESS_LIMIT, ByteRange, Registers};
 
-/// The cuts of all bytes, on both sides of a gap. It moves to where is painted, so that ranges in a rising or falling
-/// order cost little.
+/// The cuts of all bytes, on both sides of a gap. The gap moves to where an entry is painted, so that ranges in
+/// ascending or descending order cost little.
 #[derive(Drop)]
 struct Canvas {
     /// From the gap downwards.
@@ -47,7 +47,7 @@ impl Canvas {
         }
     }
 
-    /// Gives the entry all bytes of its range, where all entries after it are painted.
+    /// Gives the entry all bytes of its range, once all entries after it are painted.
     fn paint(&mut self, range: &ByteRange, entry: u8)
         requires { length self.old.below + length self.old.above + 2 ≤ RUNS }
         ensures painted { (file : RegisterFile) → range.now ≡ range_of file entry
@@ -73,7 +73,7 @@ impl Canvas {
     }
 }
 
-/// The cuts of all bytes upwards.
+/// Returns the cuts of all bytes in ascending order.
 pub fn cuts_of(registers: &Registers<'_>) -> Cuts
     ensures cuts { AreUp (IsOwner registers.now) result }
     ensures begins { start_of result ≡ 0 }

@@ -6,8 +6,8 @@ ghost use Rattle.pmp_map.specs.RangeRights.{AreRangeRights};
 
 use pmp_core::{Cause, Mode, Perms, Registers};
 
-/// What `RunMap::rights` answers with the map of these registers: what the mode may do in the whole range of `length`
-/// bytes from the byte address `start` on, or none where no one owner has all of them.
+/// Returns what `RunMap::rights` returns with the map of these registers: what the mode may do in the whole range of
+/// `length` bytes from the byte address `start` on, or none if no one owner has all of them.
 #[inline(always)]
 pub fn rights_in(registers: &Registers<'_>, mode: Mode, start: u64, length: u64) -> Option<Perms>
     requires full { 0 < length }

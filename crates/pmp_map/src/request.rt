@@ -1,4 +1,4 @@
-//! An access as numbers: those of its mode and its kind, and its bytes.
+//! An access as numbers: its mode, its kind and its bytes.
 
 ghost use Rattle.std.specs.Prelude.{◌≡◌, ◌+◌, ◌<◌, ◌≤◌, IfSome, None};
 ghost use Rattle.pmp_core.specs.declared.access.Access.{Access};
@@ -8,7 +8,7 @@ ghost use Rattle.pmp_map.specs.Request.{IsNamed, mode_number, kind_number};
 
 use pmp_core::{Access, Kind, Mode};
 
-/// The mode of this level.
+/// Returns the mode of this level.
 #[inline]
 pub fn mode_of(number: u32) -> Option<Mode>
     ensures some { IfSome result (λ mode. mode_number mode ≡ number) }
@@ -22,7 +22,7 @@ pub fn mode_of(number: u32) -> Option<Mode>
     }
 }
 
-/// The kind with this number.
+/// Returns the kind with this number.
 #[inline]
 pub fn kind_of(number: u32) -> Option<Kind>
     ensures some { IfSome result (λ kind. kind_number kind ≡ number) }
@@ -36,7 +36,7 @@ pub fn kind_of(number: u32) -> Option<Kind>
     }
 }
 
-/// The access that these numbers name, if they name one.
+/// Returns the access that these numbers name, if they name one.
 #[inline]
 pub fn access_of(mode: u32, kind: u32, start: u64, length: u64) -> Option<Access>
     ensures named { IfSome result (λ access. IsNamed access mode kind start length) }

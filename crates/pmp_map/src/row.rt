@@ -1,4 +1,4 @@
-//! What accesses are answered whose bytes have one owner.
+//! The answers to accesses whose bytes have one owner.
 
 ghost use Rattle.std.specs.Prelude.{◌≡◌, ◌<◌, ◌≤◌, ℕ, IfSome, Option, length};
 ghost use Rattle.pmp_core.specs.declared.access.Mode.{Mode};
@@ -12,10 +12,10 @@ use crate::answer::{NO_CAUSE, number_by};
 use crate::mode_rights::{ModeRights, whole_cause};
 use pmp_core::{Kind, Mode, Perms, Registers};
 
-/// An answer for each mode and kind: at 4 times the mode's level, and the kind's number. There is no level 2.
+/// An answer for each mode and kind, at 4 times the mode's level plus the kind's number. There is no level 2.
 pub type Row = [u16; 16];
 
-/// Where a row has the answer for the mode and the kind.
+/// Returns where a row has the answer for the mode and the kind.
 #[inline(always)]
 pub fn column_of(mode: Mode, kind: Kind) -> usize
     ensures column { result ≡ column_of mode kind }
@@ -24,7 +24,7 @@ pub fn column_of(mode: Mode, kind: Kind) -> usize
     4 * mode as usize + kind as usize
 }
 
-/// The answer to an access of this kind, whose bytes have this owner, and whose mode has these rights.
+/// Returns the answer to an access of this kind, whose bytes have this owner, in a mode with these rights.
 fn owned_answer(owner: Option<u8>, rights: Perms, kind: Kind) -> u16
     ensures answer { (file : RegisterFile) (mode : Mode) → rights ≡ perms_of (owned_rights file owner mode)
         → result ≡ owned_answer file owner mode kind }
@@ -33,7 +33,7 @@ fn owned_answer(owner: Option<u8>, rights: Perms, kind: Kind) -> u16
     number_by(kind, whole_cause(owner), rights.allows(kind))
 }
 
-/// The answers where all bytes have this owner. Supervisor and user mode have the same.
+/// Returns the answers if all bytes have this owner. S-mode and U-mode have the same answers.
 pub fn row_of(registers: &Registers<'_>, owner: Option<u8>) -> Row
     requires { IfSome owner (λ entry. entry < length registers.now.entries) }
     ensures { IsRow registers.now owner result }
@@ -62,7 +62,7 @@ pub fn row_of(registers: &Registers<'_>, owner: Option<u8>) -> Row
     ]
 }
 
-/// The owner of which a row is.
+/// Returns the owner that a row is for.
 #[inline(always)]
 pub fn row_owner(row: &Row) -> Option<u8>
     ensures { (file : RegisterFile) (owner : Option ℕ) → IsRow file owner row.now → result ≡ owner }
@@ -71,7 +71,7 @@ pub fn row_owner(row: &Row) -> Option<u8>
     if cause < 256 { Some(cause as u8) } else { None }
 }
 
-/// What a row allows the mode.
+/// Returns what a row allows the mode.
 #[inline(always)]
 pub fn row_rights(row: &Row, mode: Mode) -> Perms
     ensures { (file : RegisterFile) (owner : Option ℕ) → IsRow file owner row.now

@@ -18,7 +18,7 @@ use std::snapshot::Snapshot;
 /// The owners of all bytes, as runs. A contract sees a map as the register file that it was built from.
 #[derive(Drop)]
 pub struct RunMap {
-    /// The file that it was built from, for contracts alone.
+    /// The file that it was built from, for contracts only.
     file: Snapshot<RegFile>,
     tables: Tables,
     runs: ArrayVec<Run, RUNS>,
@@ -37,7 +37,7 @@ impl Model for RunMap {
 }
 
 impl RunMap {
-    /// The map of a register file.
+    /// Builds the map of a register file.
     pub fn build(file: &RegFile) -> RunMap
         ensures { result ≡ file.now }
     {
@@ -50,7 +50,7 @@ impl RunMap {
         }
     }
 
-    /// The runs, from byte address 0 to `2^56 - 1`.
+    /// Returns the runs, from byte address 0 to `2^56 - 1`.
     pub fn runs(&self) -> &[Run]
         ensures runs { AreRuns self.now result.now }
         ensures few { length result.now ≤ 2 * length self.now.entries + 1 }
@@ -60,7 +60,7 @@ impl RunMap {
         &self.runs
     }
 
-    /// The lowest-numbered entry that matches the byte at this byte address (Volume II, 3.7.1.3).
+    /// Returns the lowest-numbered entry that matches the byte at this byte address (Volume II, 3.7.1.3).
     pub fn owner(&self, byte: u64) -> Option<u8>
         requires { byte < ADDRESS_LIMIT }
         ensures { IsOwner self.now byte result }
@@ -68,8 +68,8 @@ impl RunMap {
         self.tables.run_of(byte).owner
     }
 
-    /// Decides an access as the register file does that the map was built from (Volume II, 3.7.1.3). The contract
-    /// alone reads `file`.
+    /// Decides an access as does the register file that the map was built from (Volume II, 3.7.1.3). Only the contract
+    /// reads `file`.
     pub fn decide(&self, file: &RegFile, access: &Access) -> Decision
         requires { self.now ≡ file.now }
         ensures by_bytes { IsDecision file.now access.now result }
@@ -78,8 +78,8 @@ impl RunMap {
         decision(self.tables.answer(access))
     }
 
-    /// What the mode may do in the whole range of `length` bytes from this byte address on, as a page, or none where no
-    /// one owner has all of them.
+    /// Returns what the mode may do in the whole range of `length` bytes from this byte address on, such as a page, or
+    /// none if no one owner has all of them.
     pub fn rights(&self, mode: Mode, start: u64, length: u64) -> Option<Perms>
         requires full { 0 < length }
         requires inside { start + length ≤ ADDRESS_LIMIT }

@@ -1,19 +1,19 @@
-//! Finding the run of a byte.
+//! The search for the run that contains a byte.
 
 ghost use Rattle.std.specs.Prelude.{◌≡◌, ◌+◌, ◌*◌, ◌<◌, ◌≤◌};
 ghost use Rattle.pmp_map.specs.Search.{IsRising, IsBetween, IsWithin};
 
-/// How long a table of starts is, more than there are runs: the six times six times six places that a search tells
-/// apart, and one after them.
+/// The length of a table of starts, more than the number of runs: the six times six times six places that a search
+/// distinguishes, and one more at the end.
 pub const PLACES: usize = 6 * 6 * 6 + 1;
 
-/// Tables with no more runs than this are searched by two counts in place of three.
+/// Tables with at most this many runs are searched by two counts instead of three.
 pub const SHORT: usize = 36;
 
 /// Tables with no more runs than this are searched by one count.
 pub const FEW: usize = 6;
 
-/// The place of the byte among the six from `low` on that lie `stride` apart: counts the starts at or below it.
+/// Returns the place of the byte among six, `stride` apart from `low` on: counts the starts at or below the byte.
 #[inline(always)]
 fn count_from(starts: &[u64; PLACES], low: usize, stride: usize, byte: u64) -> usize
     requires { low + 6 * stride < PLACES }
@@ -29,9 +29,9 @@ fn count_from(starts: &[u64; PLACES], low: usize, stride: usize, byte: u64) -> u
     low + stride * count
 }
 
-/// The place of the byte in a table of where so many runs begin: that of the run that has it. Any table and any number
-/// have a place, before the last. Counts tests in place of branching on them; the branches are the same at every look-up
-/// of a map.
+/// Returns the place, in a table of starts for the given number of runs, of the run that has the byte. It is before the
+/// last place for any table and number. Adds up tests instead of branching on them; the branches are the same at every
+/// look-up of a map.
 #[inline(always)]
 pub fn place_of(starts: &[u64; PLACES], runs: usize, byte: u64) -> usize
     ensures inside { result + 1 < PLACES }

@@ -1,4 +1,4 @@
-//! The map as tables: where each run begins, and what it answers.
+//! The map as tables: where each run begins, and its answers.
 
 ghost use Rattle.std.specs.Prelude.{◌≡◌, ◌+◌, ◌<◌, ◌≤◌, IfSome, ℕ, Option, length, slice_index};
 ghost use Rattle.pmp_core.specs.declared.access.TheConstants.{ADDRESS_LIMIT};
@@ -20,19 +20,19 @@ use crate::search::{PLACES, place_of};
 use arrayvec::ArrayVec;
 use pmp_core::{ADDRESS_LIMIT, Access, Mode, Perms, Registers};
 
-/// Where each run of a register file's map begins, and what it answers.
+/// The start of each run of a register file's map, and its answers.
 #[repr(C)]
 #[derive(Clone, Copy, Debug, PartialEq, Eq)]
 pub struct Tables {
     /// The byte address of each run's first byte; past the last run, the end of the address space.
     pub starts: [u64; PLACES],
-    /// How many runs there are: 0 where the tables aren't built.
+    /// The number of runs: 0 if the tables aren't built.
     pub runs: u64,
-    /// What each run answers to the accesses inside it.
+    /// The answers of each run to the accesses inside it.
     pub rows: [Row; PLACES],
 }
 
-/// The least number of the causes of the runs from one place up to another, without that; 512 where no entry owns any.
+/// Returns the least cause number of the runs from `first` up to, but without, `end`; 512 if none has an owner.
 fn least_cause(rows: &[Row; PLACES], first: usize, end: usize) -> u16
     requires { end ≤ PLACES }
     ensures most { result ≤ 512 }
@@ -45,7 +45,7 @@ fn least_cause(rows: &[Row; PLACES], first: usize, end: usize) -> u16
     least
 }
 
-/// The row of an owner, where that of none is known.
+/// Returns the row of an owner, given the row of no owner.
 #[inline]
 fn row_by(registers: &Registers<'_>, unowned: &Row, owner: Option<u8>) -> Row
     requires owner { IfSome owner (λ entry. entry < length registers.now.entries) }
@@ -66,7 +66,7 @@ impl Tables {
         rows: [[0; 16]; PLACES],
     };
 
-    /// Makes them the tables of the registers.
+    /// Fills the tables for the registers.
     pub fn fill(&mut self, registers: &Registers<'_>)
         ensures { AreTables registers.now self.new }
     {
@@ -84,7 +84,7 @@ impl Tables {
         }
     }
 
-    /// The answer to an access that begins in the run at this place and leaves it: rare, and out of the way of the others.
+    /// Returns the answer to an access that begins in the run at this place and leaves it: rare, so out of line.
     #[cold]
     #[inline(never)]
     fn answer_straddling(&self, place: usize, access: &Access) -> u16
@@ -103,7 +103,7 @@ impl Tables {
         split_number(access.kind, least_cause(&self.rows, place, last + 1))
     }
 
-    /// The number that answers an access.
+    /// Returns the number of the answer to an access.
     #[inline(always)]
     pub fn answer(&self, access: &Access) -> u16
         ensures { (file : RegisterFile) → AreTables file self.now
@@ -117,7 +117,7 @@ impl Tables {
         }
     }
 
-    /// What the mode may do in the whole range, or none where no one owner has all of its bytes.
+    /// Returns what the mode may do in the whole range, or none if no one owner has all of its bytes.
     #[inline(always)]
     pub fn rights(&self, mode: Mode, start: u64, length: u64) -> Option<Perms>
         requires full { 0 < length }
@@ -132,7 +132,7 @@ impl Tables {
         }
     }
 
-    /// The run at this place.
+    /// Returns the run at this place.
     #[inline(always)]
     fn run_at(&self, place: usize) -> Run
         requires { place + 1 < PLACES }
@@ -146,7 +146,7 @@ impl Tables {
         }
     }
 
-    /// All runs.
+    /// Returns all runs.
     pub fn list(&self) -> ArrayVec<Run, RUNS>
         ensures { (file : RegisterFile) → AreTables file self.now → AreRuns file result.items }
     {
@@ -157,7 +157,7 @@ impl Tables {
         runs
     }
 
-    /// The run of the byte.
+    /// Returns the run of the byte.
     pub fn run_of(&self, byte: u64) -> Run
         requires { byte < ADDRESS_LIMIT }
         ensures { (file : RegisterFile) → AreTables file self.now → IsRunAround file byte result }

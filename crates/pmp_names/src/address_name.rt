@@ -8,7 +8,7 @@ ghost use Rattle.pmp_names.specs.NameLists.{said_so};
 
 use pmp_text::read_word_number;
 
-/// The most bytes of a name.
+/// The greatest length of a name in bytes.
 pub const NAME_BYTES: usize = 64;
 
 /// A name of the bytes from `first` to `last`.
@@ -16,7 +16,7 @@ pub const NAME_BYTES: usize = 64;
 pub struct AddressName<'a> {
     /// The address of the first byte.
     pub first: u64,
-    /// That of the last byte.
+    /// The address of the last byte.
     pub last: u64,
     pub name: &'a [u8],
 }
@@ -42,7 +42,7 @@ fn are_name_bytes(name: &[u8]) -> bool
     name.iter().all(|byte| is_name_byte(*byte))
 }
 
-/// Whether it is a name: at most `NAME_BYTES` bytes, of which the first is no digit, and without `,`, `+` and `"`.
+/// Whether it is a name: at most `NAME_BYTES` bytes, the first not a digit, and without `,`, `+` and `"`.
 pub fn is_name(name: &[u8]) -> bool
     ensures { result ≡ is_name name.now }
 {
@@ -55,7 +55,7 @@ fn first_comma(line: &[u8]) -> Option<usize>
     line.iter().position(|byte| *byte == b',')
 }
 
-/// What stands before the first comma, and what stands after it.
+/// Returns the text before the first comma, and the text after it.
 pub fn split_comma(line: &[u8]) -> Option<(&[u8], &[u8])>
     ensures { option_map (λ parts. (parts.0.now, parts.1.now)) result ≡ split_comma line.now }
 {
@@ -66,7 +66,7 @@ pub fn split_comma(line: &[u8]) -> Option<(&[u8], &[u8])>
 }
 
 impl<'a> AddressName<'a> {
-    /// The name that a line gives, or which of its fields is at fault; none where it hasn't three.
+    /// Returns the name in a line, or which of its fields is at fault; none if it doesn't have three.
     pub fn read(line: &'a [u8]) -> Result<AddressName<'a>, Option<usize>>
         ensures { said_so result ≡ name_said line.now }
     {

@@ -9,13 +9,13 @@ use crate::address_name::AddressName;
 use pmp_text::{Refusal, split_first_line};
 use std::alloc::{AllocError, Global};
 
-/// Why a text gives no names: `BadHeader`, `BadRow` or `Memory`.
+/// The reason why a text gives no names: `BadHeader`, `BadRow` or `Memory`.
 #[derive(Clone, Copy, Debug, PartialEq, Eq)]
 pub struct NamesFault {
     pub refusal: Refusal,
-    /// The row, counted from 1 behind the header, or 0 where the fault is of none.
+    /// The row, counted from 1 after the header, or 0 if the fault is of no row.
     pub row: u64,
-    /// The field of the row, counted from 0, or none where the whole row is at fault.
+    /// The field of the row, counted from 0, or none if the whole row is at fault.
     pub field: Option<usize>,
 }
 
@@ -41,7 +41,7 @@ fn no_header() -> NamesFault
     }
 }
 
-/// The names that a text gives: the line `first,last,name`, and a line with these three fields for each.
+/// Returns the names that a text gives: the line `first,last,name`, and a line with these three fields for each name.
 pub fn read_names<'a>(alloc: Global, text: &'a [u8]) -> Result<Vec<AddressName<'a>>, NamesFault>
     ensures ok { IfOk result (λ names. names_said text.now ≡ Ok (map named names.items)) }
     ensures err { IfErr result (λ fault. (fault ≡ no_memory) ⊎ (names_said text.now ≡ Err fault)) }

@@ -1,4 +1,4 @@
-//! The name of a hart's script, which rows of the hart begin with.
+//! The name of a hart's script, with which rows of the hart begin.
 
 ghost use Rattle.std.specs.Prelude.{◌≡◌, ◌⊎◌, IfErr, IfOk, false, true};
 ghost use Rattle.std.specs.List.{list_all};
@@ -10,13 +10,13 @@ use arrayvec::ArrayString;
 use pmp_text::Refusal;
 use std::alloc::Global;
 
-/// The most bytes of the name of a hart's script: file systems take no more.
+/// The greatest length of the name of a hart's script in bytes: file systems allow no more.
 pub const HART_NAME: usize = 255;
 
 /// The file name of a hart's script.
 #[derive(Drop, PartialEq, Eq, PartialOrd, Ord)]
 pub struct HartName {
-    /// What it is ordered by.
+    /// The key that it is ordered by.
     key: Vec<u8>,
     pub name: ArrayString<HART_NAME>,
     ghost is_key: { key.items ≡ order_key name.bytes },
@@ -35,7 +35,7 @@ fn are_plain(name: &[u8]) -> bool
 }
 
 impl HartName {
-    /// A name with which rows can begin.
+    /// Returns the name, if rows can begin with it.
     pub fn read(alloc: Global, name: &str) -> Result<HartName, Refusal>
         ensures ok { IfOk result (λ hart. (hart.name.bytes ≡ name.now) × (is_hart_name name.now ≡ true)) }
         ensures err { IfErr result (λ refusal. (refusal ≡ Memory)

@@ -6,9 +6,9 @@ ghost use Rattle.pmp_names.specs.HartRows.{named_rows};
 use pmp_text::split_first_line;
 use std::alloc::AllocError;
 
-/// Appends the rows of a text, each behind a name and a comma.
+/// Appends the rows of a text, each after a name and a comma.
 ///
-/// Where memory runs out, some of them may have been appended.
+/// If memory runs out, some of them may have been appended.
 pub fn append_rows(rows: &mut Vec<u8>, name: &str, text: &[u8]) -> Result<(), AllocError>
     ensures { OnOk result (rows.new.items ≡ rows.old.items ++ named_rows name.now text.now) }
 {

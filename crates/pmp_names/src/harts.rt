@@ -10,7 +10,7 @@ use crate::hart_name::HartName;
 use pmp_text::Refusal;
 use std::alloc::{AllocError, Global};
 
-/// The most harts of a folder.
+/// The greatest number of harts in a folder.
 pub const HARTS: usize = 4096;
 
 fn is_script(name: &str) -> bool
@@ -20,7 +20,7 @@ fn is_script(name: &str) -> bool
     name.ends_with(b".pmp") && !name.starts_with(b".")
 }
 
-/// The harts of a folder that has these files, in order.
+/// Returns the harts of a folder that has these files, in order.
 pub fn read_harts(alloc: Global, files: &[String]) -> Result<Vec<HartName>, Refusal>
     ensures ok { IfOk result (λ harts. AreHarts (map string_bytes files.now) (names_of harts.items)) }
     ensures err { IfErr result (HasNoHarts (map string_bytes files.now)) }
@@ -33,7 +33,7 @@ pub fn read_harts(alloc: Global, files: &[String]) -> Result<Vec<HartName>, Refu
     Ok(harts)
 }
 
-/// The scripts among these files.
+/// Returns the scripts among these files.
 fn read_names(alloc: Global, files: &[String]) -> Result<Vec<HartName>, Refusal>
     ensures ok { IfOk result (λ harts. AreNames (map string_bytes files.now) harts.items) }
     ensures err { IfErr result (HasNoHarts (map string_bytes files.now)) }
@@ -45,7 +45,7 @@ fn read_names(alloc: Global, files: &[String]) -> Result<Vec<HartName>, Refusal>
     Ok(harts)
 }
 
-/// Adds a file, where it is a script.
+/// Adds a file, if it is a script.
 fn add_file(alloc: Global, harts: &mut Vec<HartName>, file: &str) -> Result<(), Refusal>
     ensures ok { OnOk result (AddsFile file.now harts.old.items harts.new.items) }
     ensures err { IfErr result (λ refusal. (refusal ≡ Memory)

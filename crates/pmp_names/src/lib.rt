@@ -1,4 +1,4 @@
-//! Names in front of rows and behind them: the harts of a folder, and ranges of addresses.
+//! Names before and after rows: the harts of a folder, and ranges of addresses.
 #![tactic(auto)]
 
 mod address_name;

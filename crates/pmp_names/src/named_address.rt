@@ -1,4 +1,4 @@
-//! Addresses that words say by names.
+//! Addresses that words give by name.
 
 ghost use Rattle.std.specs.Prelude.{◌≡◌, map, position};
 ghost use Rattle.pmp_names.specs.NamedAddresses.{address_said, first_of, is_plus, place_said};
@@ -13,7 +13,7 @@ fn plus_at(word: &[u8]) -> Option<usize>
     word.iter().position(|byte| *byte == b'+')
 }
 
-/// The first byte that has a name: that of the first one of these names that is it.
+/// Returns the first byte with a name: that of the first of these names that matches.
 fn first_of(names: &[AddressName<'_>], name: &[u8]) -> Option<u64>
     ensures { result ≡ first_of (map named names.now) name.now }
 {
@@ -25,7 +25,7 @@ fn first_of(names: &[AddressName<'_>], name: &[u8]) -> Option<u64>
     None
 }
 
-/// Where `NAME` or `NAME+OFFSET` leads.
+/// Returns the address of `NAME` or `NAME+OFFSET`.
 pub fn read_place(names: &[AddressName<'_>], word: &[u8]) -> Option<u64>
     ensures { result ≡ place_said (map named names.now) word.now }
 {
@@ -38,7 +38,7 @@ pub fn read_place(names: &[AddressName<'_>], word: &[u8]) -> Option<u64>
     }
 }
 
-/// The address that a word says, as a number or by a name.
+/// Returns the address in a word, given as a number or by name.
 pub fn read_address(names: &[AddressName<'_>], word: &[u8]) -> Option<u64>
     ensures { result ≡ address_said (map named names.now) word.now }
 {

@@ -1,4 +1,4 @@
-//! Rows with the names that their ranges meet.
+//! Rows with the names that overlap their ranges.
 
 ghost use Rattle.std.specs.Prelude.{◌≡◌, ◌++◌, OnOk, Some, map, option_map};
 ghost use Rattle.std.specs.List.{before_first};
@@ -19,7 +19,7 @@ pub struct Columns {
     pub last: usize,
 }
 
-/// Where a part of what has a name begins in it.
+/// The offset of a part of a named range from its beginning.
 #[derive(Clone, Copy)]
 struct Offset(u64);
 
@@ -45,7 +45,7 @@ impl<'a> AddressName<'a> {
         first <= self.first && self.last <= last
     }
 
-    /// Appends the name, and where only a part of it is met, where that begins.
+    /// Appends the name, and if only a part of it overlaps, the offset of that part.
     fn append_to(&self, out: &mut Vec<u8>, first: u64, last: u64) -> Result<(), AllocError>
         ensures { OnOk result (out.new.items ≡ out.old.items ++ met_name (named self.now) first last) }
     {
@@ -57,7 +57,7 @@ impl<'a> AddressName<'a> {
     }
 }
 
-/// Appends the names that a range meets, with blanks between them.
+/// Appends the names that overlap a range, separated by blanks.
 fn append_met(
     out: &mut Vec<u8>,
     names: &[AddressName<'_>],
@@ -88,7 +88,7 @@ fn first_field(row: &[u8]) -> &[u8]
     }
 }
 
-/// The field of a row with this number.
+/// Returns the field of a row with this number.
 fn field_at(row: &[u8], index: usize) -> Option<&[u8]>
     ensures { option_map (λ field. field.now) result ≡ field_at index row.now }
 {
@@ -100,14 +100,14 @@ fn field_at(row: &[u8], index: usize) -> Option<&[u8]>
     Some(first_field(rest))
 }
 
-/// The byte address in the field of a row with this number.
+/// Returns the byte address in the field of a row with this number.
 fn address_at(row: &[u8], index: usize) -> Option<u64>
     ensures { result ≡ address_at index row.now }
 {
     read_numeral(field_at(row, index)?, 16, ADDRESS_DIGITS)
 }
 
-/// Appends a row with the names that its range meets behind it.
+/// Appends a row, followed by the names that overlap its range.
 fn append_row(
     out: &mut Vec<u8>,
     names: &[AddressName<'_>],
@@ -127,9 +127,9 @@ fn append_row(
     Ok(out.push(b'\n')?)
 }
 
-/// Appends the rows of a text, each with the names that its range meets behind it.
+/// Appends the rows of a text, each followed by the names that overlap its range.
 ///
-/// Where memory runs out, some of them may have been appended.
+/// If memory runs out, some of them may have been appended.
 pub fn append_named(
     out: &mut Vec<u8>,
     names: &[AddressName<'_>],

@@ -1,4 +1,4 @@
-//! Texts of fields, with numbers in the places of names.
+//! Texts of fields, with numbers instead of names.
 
 ghost use Rattle.std.specs.Prelude.{◌≡◌, ◌++◌, ◌∷◌, ◌<◌, IfOk, IfSome, List, OnOk, Some, codes, false, length, map, ℕ};
 ghost use Rattle.std.specs.Fmt.{digits};
@@ -28,14 +28,14 @@ impl fmt::Display for Number {
     }
 }
 
-/// Whether quotes are open behind a byte.
+/// Whether quotes are open after a byte.
 fn quoted_behind(in_quotes: bool, byte: u8) -> bool
     ensures { result ≡ quoted_behind in_quotes byte }
 {
     if byte == b'"' { !in_quotes } else { in_quotes }
 }
 
-/// Where the first separator outside quotes stands.
+/// Returns the position of the first separator outside quotes.
 fn end_at(text: &[u8], separator: u8) -> Option<usize>
     ensures value { result ≡ end_at separator text.now }
     ensures inside { IfSome result (λ end. end < length text.now) }
@@ -50,7 +50,7 @@ fn end_at(text: &[u8], separator: u8) -> Option<usize>
     None
 }
 
-/// The first part of a text, and what stands behind its separator, where it has one.
+/// Returns the first part of a text, and the text after its separator, if it has one.
 fn split_part(text: &[u8], separator: u8) -> (&[u8], Option<&[u8]>)
     ensures { parts_of separator text.now ≡ result.0.now ∷ rest_of separator result.1 }
 {
@@ -66,7 +66,7 @@ fn heads_addresses(head: &[u8]) -> bool
     matches!(head, b"start" | b"first" | b"last")
 }
 
-/// Appends a field, with a number in the place of a name.
+/// Appends a field, with a number instead of a name.
 fn append_field(
     out: &mut Vec<u8>,
     names: &[AddressName<'_>],
@@ -83,7 +83,7 @@ fn append_field(
     Ok(out.extend_from_slice(field)?)
 }
 
-/// The head of the next column, and what is left of the header.
+/// Returns the heading of the next column, and the rest of the header.
 fn next_head(heads: &[u8]) -> (&[u8], &[u8])
     ensures { (names : List Named) → (field : List ℕ) → (fields : List (List ℕ))
         → numbered_fields names (fields_of heads.now) (field ∷ fields)
@@ -95,7 +95,7 @@ fn next_head(heads: &[u8]) -> (&[u8], &[u8])
     }
 }
 
-/// Appends a row below this header, with numbers in the places of names.
+/// Appends a row below this header, with numbers instead of names.
 fn append_row(
     out: &mut Vec<u8>,
     names: &[AddressName<'_>],
@@ -118,7 +118,7 @@ fn append_row(
     Ok(())
 }
 
-/// Appends a text whose first line heads the fields of the others, with numbers in the places of names.
+/// Appends a text whose first line is the header of the others, with numbers instead of names.
 fn append_numbered(
     out: &mut Vec<u8>,
     names: &[AddressName<'_>],
@@ -137,8 +137,8 @@ fn append_numbered(
     Ok(())
 }
 
-/// A text whose first line heads the fields of the others, with a number in the place of each of these names that a
-/// field of an address says; without names it is the same.
+/// Returns a text whose first line is the header of the others, with numbers instead of these names in the fields of
+/// addresses; without names the text is unchanged.
 pub fn number_text(
     alloc: Global,
     names: Option<&[AddressName<'_>]>,

@@ -1,4 +1,4 @@
-//! What the name of a hart's script is ordered by.
+//! The key by which names of harts' scripts are ordered.
 
 ghost use Rattle.std.specs.Char.{is_ascii_digit};
 ghost use Rattle.std.specs.Prelude.{◌≡◌, ◌∷◌, [], List, ℕ, IfOk, OnOk, false, true};
@@ -7,11 +7,11 @@ ghost use Rattle.pmp_names.specs.Keys.{keyed};
 
 use std::alloc::{AllocError, Global};
 
-/// What a name is ordered by, as far as it was read.
+/// The key of a name, as far as it was read.
 #[derive(Drop)]
 pub struct OrderKey {
     bytes: Vec<u8>,
-    /// The digits of the number that the name is in, from the first that isn't 0 on.
+    /// The digits of the number that is being read, from the first that isn't 0 on.
     digits: Vec<u8>,
     is_open: bool,
 }
@@ -40,7 +40,7 @@ impl OrderKey {
         Ok(self.digits.push(digit)?)
     }
 
-    /// Ends the number, where the name is in one.
+    /// Ends the number, if the name is within one.
     fn end_number(&mut self) -> Result<(), AllocError>
         ensures bytes { OnOk result (self.new.bytes.items ≡ keyed self.old []) }
         ensures is_open { self.new.is_open ≡ false }

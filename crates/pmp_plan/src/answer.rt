@@ -1,4 +1,4 @@
-//! What is written for the text of a plan.
+//! The text that is written for a plan.
 
 ghost use Rattle.std.specs.Prelude.{◌≡◌, IfErr, IfOk, OnOk};
 ghost use Rattle.pmp_plan.specs.PlanAnswers.{IsTold, PlanFails, PlanSays, Untold, too_long};
@@ -17,7 +17,7 @@ use pmp_text::{MAX_SCRIPT, OutputFault, Refusal, ScriptFault, TraceFault, write_
 use std::alloc::{AllocError, Global};
 use std::io::Write;
 
-/// How writes are told.
+/// The output format of writes.
 #[derive(Clone, Copy, Debug, PartialEq, Eq)]
 pub enum Form {
     /// As a script of version 3.
@@ -26,14 +26,14 @@ pub enum Form {
     Array,
 }
 
-/// Why nothing is written for a text, or not all.
+/// The reason why nothing, or not everything, is written for a text.
 #[derive(Clone, Copy, Debug, PartialEq, Eq)]
 pub enum AnswerFault {
-    /// The text says no plan.
+    /// The text describes no plan.
     Text(TraceFault),
-    /// The text says no script.
+    /// The text describes no script.
     Script(ScriptFault),
-    /// There are no writes for the plan, or there is no memory.
+    /// There are no writes for the plan, or memory ran out.
     Plan(PlanFault),
     Output,
 }
@@ -78,7 +78,7 @@ impl From<OutputFault> for AnswerFault {
     }
 }
 
-/// The text that tells of the writes for these rows.
+/// Returns the text of the writes for these rows.
 fn told(
     alloc: Global,
     hart: Hart,
@@ -104,9 +104,9 @@ fn too_long() -> TraceFault
     Refusal::TooLong.whole().at_row(0)
 }
 
-/// Writes the writes for a plan that a text has, for a hart that was reset and these bits of `mseccfg`.
+/// Writes the writes for a plan in a text, for a hart after reset and these bits of `mseccfg`.
 ///
-/// The text is whole before its first byte is written, so every refusal but `Output` leaves the output untouched.
+/// The text is complete before its first byte is written, so every refusal but `Output` leaves the output untouched.
 pub fn write_plan<W: Write>(
     alloc: Global,
     hart: Hart,

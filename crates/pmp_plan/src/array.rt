@@ -9,7 +9,7 @@ use pmp_core::{Csr, Event};
 use pmp_text::{NoMemory, RegisterName, Sink, append_line};
 use std::fmt;
 
-/// The number of a register (Volume II, 2.2).
+/// Returns the number of a register (Volume II, 2.2).
 fn csr_number(csr: Csr) -> u16
     ensures { result ≡ csr_number csr }
 {
@@ -40,16 +40,16 @@ impl fmt::Display for Element {
     }
 }
 
-/// Whether none is a reset, for which an array has no element.
+/// Whether there is no reset, for which an array has no element.
 fn are_writes(events: &[Event]) -> bool
     ensures { result ≡ list_all is_write events.now }
 {
     events.iter().all(|event| matches!(event, Event::Write(..)))
 }
 
-/// Appends the writes as an array in C, of CSR numbers and values in the order in which they are to be written.
+/// Appends the writes as a C array of CSR numbers and values in the order in which they are to be written.
 ///
-/// Where memory runs out, a part of it may have been appended.
+/// If memory runs out, a part of it may have been appended.
 pub fn append_array<S: Sink>(out: &mut S, writes: &[Event]) -> Result<(), NoMemory>
     ensures writes { OnOk result (list_all is_write writes.now ≡ true) }
     ensures text { OnOk result (S.text out.new ≡ S.text out.old ++ array_text writes.now) }

@@ -1,4 +1,4 @@
-//! The rules that give a byte what a plan asks.
+//! The rules that give a byte what a plan asks for.
 
 ghost use Rattle.std.specs.Prelude.{◌≡◌, IsTrue, false};
 ghost use Rattle.pmp_core.specs.Configuration.{configuration_of, is_reserved};
@@ -18,7 +18,7 @@ const RULES: [u8; 16] = [
     0, 1, 2, 3, 4, 5, 6, 7, 128, 129, 130, 131, 132, 133, 134, 135,
 ];
 
-/// What an entry gives by this byte, as it is stored.
+/// Returns what an entry with this byte gives, as it is stored.
 fn rights_by(security: Security, byte: u8) -> ModeRights
     ensures { result ≡ rule_pair security (stored_rule security byte) }
 {
@@ -28,14 +28,14 @@ fn rights_by(security: Security, byte: u8) -> ModeRights
     ModeRights::of_owner(&Registers::of(&saved), Some(0))
 }
 
-/// W without R.
+/// Whether it is W without R.
 fn is_reserved(byte: u8) -> bool
     ensures { result ≡ is_reserved (configuration_of byte) }
 {
     byte / 2 % 2 == 1 && byte % 2 != 1
 }
 
-/// Whether a rule gives what is asked.
+/// Whether a rule gives what is asked for.
 fn is_rule_for(security: Security, demand: Demand, byte: u8) -> bool
     ensures yes { IsTrue result → IsRuleFor security demand (configuration_of byte) }
     ensures no { IsRuleFor security demand (configuration_of byte) → IsTrue result }
@@ -45,7 +45,7 @@ fn is_rule_for(security: Security, demand: Demand, byte: u8) -> bool
     is_legal && rights_by(security, byte) == demand.rights && (is_held || !demand.is_locked)
 }
 
-/// Whether some rule does.
+/// Whether some rule gives what is asked for.
 pub fn has_rule(security: Security, demand: Demand) -> bool
     ensures yes { IsTrue result → HasRule security demand }
     ensures no { result ≡ false → ¬ (HasRule security demand) }
@@ -58,7 +58,7 @@ pub fn has_rule(security: Security, demand: Demand) -> bool
     false
 }
 
-/// The first rule and the last that give what is asked: there are no others.
+/// Returns the first and the last rule that give what is asked for: there are no others.
 pub fn choices(security: Security, demand: Demand) -> [Option<u8>; 2] {
     let mut first = None;
     let mut last = None;
@@ -74,7 +74,7 @@ pub fn choices(security: Security, demand: Demand) -> [Option<u8>; 2] {
     [first, last]
 }
 
-/// Whether entries with this rule hold what they own.
+/// Whether entries with this rule hold the bytes that they own.
 pub fn holds(security: Security, rule: u8) -> bool {
     rule / LOCK == 1 && !security.rlb
 }

@@ -1,27 +1,27 @@
-//! How many entries what is left of a plan may take.
+//! An estimate of the entries that the rest of a plan takes.
 
 use crate::parts::{PARTS, Part, Parts};
 use pmp_core::ByteRange;
 use pmp_map::ModeRights;
 
-/// The most pairs of rights that entries give: fifteen.
+/// The greatest number of pairs of rights that entries give: fifteen.
 const PAIRS: usize = 16;
 
-/// What is left that one pair of rights is asked of.
+/// The remaining parts that one pair of rights is asked for.
 #[derive(Clone, Copy)]
 struct Group {
     rights: ModeRights,
-    /// From the first byte that is left to the last.
+    /// The bytes from the first remaining one to the last.
     hull: ByteRange,
-    /// How many parts are left.
+    /// The number of remaining parts.
     parts: usize,
-    /// How many entries they take, each by itself.
+    /// The number of entries they take, each by itself.
     entries: usize,
-    /// Whether bytes between them are to be left as no entry leaves them.
+    /// Whether there are bytes between them that are to be left as without entries.
     has_gap: bool,
 }
 
-/// The parts that are left, by their rights.
+/// The remaining parts, by their rights.
 #[derive(Drop)]
 struct Groups {
     list: [Option<Group>; PAIRS],
@@ -32,7 +32,7 @@ impl Group {
         self.rights == part.demand.rights
     }
 
-    /// As many entries as the parts take, or two that lie behind all others.
+    /// Returns the number of entries the parts take, or two that come after all others.
     fn cost(&self) -> usize {
         if self.parts > 1 && !self.has_gap {
             self.entries.min(2)
@@ -75,7 +75,7 @@ impl Groups {
         }
     }
 
-    /// Bytes that are to be left as no entry leaves them.
+    /// Notes bytes that are to be left as without entries.
     fn part_by(&mut self, part: &Part, left: ByteRange) {
         for index in 0..PAIRS {
             if let Some(group) = self.list[index] {
@@ -97,7 +97,7 @@ impl Groups {
     }
 }
 
-/// How many entries may own this of the parts, where a range can begin there: 0 where nothing is left that needs one.
+/// Returns how many entries these rests of parts may take, if a range can begin there: 0 if none of them needs one.
 pub fn cost(parts: &Parts, left: &[ByteRange; PARTS], chain: Option<u64>) -> usize {
     let mut groups = Groups {
         list: [None; PAIRS],

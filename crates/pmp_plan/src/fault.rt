@@ -1,4 +1,4 @@
-//! Why a plan has no registers.
+//! The reasons why a plan has no registers.
 
 ghost use Rattle.std.specs.Prelude.{◌≡◌};
 ghost use Rattle.pmp_plan.specs.PlanFaults.{refusal_of};
@@ -7,7 +7,7 @@ ghost use Rattle.pmp_plan.specs.declared.fault.PlanFault.TheVariants.{Memory};
 use pmp_text::Refusal;
 use std::alloc::AllocError;
 
-/// Why a plan is refused. A row is named by its index, from 0.
+/// The reason why a plan is refused. A row is named by its index, from 0.
 #[derive(Clone, Copy, Debug, PartialEq, Eq)]
 pub enum PlanFault {
     /// These two rows have a byte in common.
@@ -15,7 +15,7 @@ pub enum PlanFault {
         row: usize,
         other: usize,
     },
-    /// A row whose field with this number, from 0, isn't at an end of a grain: the first byte or the last.
+    /// A row whose field with this number, from 0, the first byte or the last, isn't at an end of a grain.
     TooFine {
         row: usize,
         field: usize,
@@ -24,20 +24,20 @@ pub enum PlanFault {
     PastEnd {
         row: usize,
     },
-    /// A row whose rights no entry gives on this hart with these bits of `mseccfg`, or none that can be held.
+    /// A row whose rights no entry gives on this hart with these bits of `mseccfg`, or no held entry gives.
     BadPair {
         row: usize,
     },
-    /// The hart keeps other bits of `mseccfg`: it is one without Smepmp.
+    /// The hart keeps other bits of `mseccfg`, because it lacks Smepmp.
     NotHeld,
-    /// The fewest entries that were found are so many, and the hart hasn't as many. Of the rows this one takes most of
-    /// them: so many were chosen for it.
+    /// The smallest number of entries that was found, more than the hart has, and the row that takes the most of them,
+    /// with how many were chosen for it.
     FewEntries {
         found: usize,
         row: usize,
         takes: usize,
     },
-    /// No entries were found within the bound of the search. There may be some.
+    /// The bounded search found no entries. There may be some.
     Stopped,
     Memory,
 }

@@ -11,7 +11,7 @@ use crate::security::Security;
 use pmp_core::{ADDRESS_LIMIT, Csr, Hart, RegFile, Registers};
 use pmp_map::{ModeRights, is_held, run_around};
 
-/// Whether bytes of this owner are given what is asked.
+/// Whether bytes of this owner are given what is asked for.
 fn owner_gives(registers: &Registers<'_>, owner: Option<u8>, demand: Demand) -> bool
     requires { IfSome owner (λ entry. entry < length registers.now.entries) }
     ensures yes { IsTrue result → OwnerGives registers.now owner demand }
@@ -21,7 +21,7 @@ fn owner_gives(registers: &Registers<'_>, owner: Option<u8>, demand: Demand) -> 
     rights == demand.rights && (!demand.is_locked || is_held(registers, owner))
 }
 
-/// Whether each byte from `first` to `last` is given what is asked.
+/// Whether each byte from `first` to `last` is given what is asked for.
 fn gives(registers: &Registers<'_>, first: u64, last: u64, demand: Demand) -> bool
     requires { last < ADDRESS_LIMIT }
     ensures yes { IsTrue result → GivesFrom registers.now demand first last }
@@ -38,7 +38,7 @@ fn gives(registers: &Registers<'_>, first: u64, last: u64, demand: Demand) -> bo
     true
 }
 
-/// Whether each byte that no row has is given these rights.
+/// Whether each byte that is in no row is given these rights.
 fn gives_rest(registers: &Registers<'_>, rows: &[PlanRow<'_>], rights: ModeRights) -> bool
     ensures yes { IsTrue result → GivesRest registers.now rows.now rights ADDRESS_LIMIT }
     ensures no { GivesRest registers.now rows.now rights ADDRESS_LIMIT → IsTrue result }
@@ -75,9 +75,8 @@ fn meets_rows(registers: &Registers<'_>, rows: &[PlanRow<'_>]) -> bool
     true
 }
 
-/// Whether the register file meets the plan: it is of the hart and has the `mseccfg` that are asked for, each byte of
-/// each row has exactly the row's rights, and is held where the row is locked, and every other byte is left as no entry
-/// leaves it.
+/// Whether the register file meets the plan: it is of the hart and has the requested `mseccfg`, each byte of each row
+/// has exactly the row's rights, and is held if the row is locked, and every other byte is left as without entries.
 pub fn meets(file: &RegFile, hart: Hart, security: Security, rows: &[PlanRow<'_>]) -> bool
     ensures yes { IsTrue result → MeetsPlan hart security rows.now file.now }
     ensures no { MeetsPlan hart security rows.now file.now → IsTrue result }

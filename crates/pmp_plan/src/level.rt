@@ -1,9 +1,9 @@
-//! The states that are kept of those with one number of entries.
+//! The best states with a given number of entries.
 
 use crate::state::State;
 use std::alloc::{AllocError, Global};
 
-/// How many of them: with so many a search was as good as an exhaustive one wherever that could be tried.
+/// The number of states kept: with this many, a search was as good as an exhaustive one wherever that could be tried.
 const WIDTH: usize = 64;
 
 /// The best of the states that were offered.
@@ -28,7 +28,7 @@ impl Level {
         false
     }
 
-    /// The state of the highest cost.
+    /// Returns the state of the highest cost.
     fn worst(&self) -> usize {
         let mut worst = 0;
         let mut cost = 0;
@@ -41,7 +41,7 @@ impl Level {
         worst
     }
 
-    /// Keeps the state, if it is another than those kept, and better than one of them where there is no room.
+    /// Keeps the state, if it differs from those kept, and is better than one of them if there is no room.
     pub fn offer(&mut self, state: State) -> Result<(), AllocError> {
         if self.has_same(&state) {
             return Ok(());

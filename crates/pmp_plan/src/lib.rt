@@ -1,4 +1,4 @@
-//! From a plan to registers: which bytes are to be open to whom, and the writes that make them so.
+//! From a plan to registers: which bytes are open to whom, and the writes that make them so.
 //!
 //! `read_plan` reads the rows of a plan, `plan` finds the writes, and `meets` says whether a register file meets a
 //! plan. The definitions that the contracts cite are in `specs/`.

@@ -1,4 +1,4 @@
-//! The entries that may come next.
+//! The possible next entries.
 
 use crate::choices::{LOCK, holds};
 use crate::level::Level;
@@ -7,32 +7,32 @@ use crate::state::{Chosen, State};
 use pmp_core::ByteRange;
 use std::alloc::AllocError;
 
-/// A of a configuration byte: top of range.
+/// The field A of a configuration byte: top of range.
 const TOR: u8 = 8;
 
-/// A of a configuration byte: naturally aligned four bytes.
+/// The field A of a configuration byte: naturally aligned four bytes.
 const NA4: u8 = 16;
 
-/// A of a configuration byte: a naturally aligned power of two of eight bytes or more.
+/// The field A of a configuration byte: a naturally aligned power of two of eight bytes or more.
 const NAPOT: u8 = 24;
 
-/// The states that one entry more leads to, and those that two more lead to.
+/// The states that one more entry leads to, and those that two more lead to.
 #[derive(Drop)]
 pub struct Next<'a> {
     pub one: &'a mut Level,
     pub two: &'a mut Level,
 }
 
-/// An entry for what is left of a part: its rule, and where it may match.
+/// An entry for the rest of a part: its rule, and where it may match.
 #[derive(Clone, Copy)]
 struct Candidate {
     part: usize,
     rule: u8,
     /// Whether it and all entries before it are frozen.
     is_frozen: bool,
-    /// The first byte that is left of the part.
+    /// The first byte of the rest of the part.
     first: u64,
-    /// The bytes in which nothing else is asked of what is left.
+    /// The bytes in which no rest of a part asks for anything else.
     room: ByteRange,
 }
 
@@ -45,7 +45,7 @@ impl Candidate {
         }
     }
 
-    /// A naturally aligned block.
+    /// Returns the entry of a naturally aligned block.
     fn block_entry(&self, block: ByteRange) -> Chosen {
         let size = block.end.saturating_sub(block.start);
         let address = block.start / 4;
@@ -59,12 +59,12 @@ impl Candidate {
         self.entry(self.rule | TOR, end / 4)
     }
 
-    /// An entry whose address another begins its range at.
+    /// Returns an entry at whose address another one's range begins.
     fn low_entry(&self) -> Chosen {
         self.entry(self.rule & LOCK, self.first / 4)
     }
 
-    /// The largest block.
+    /// Takes the largest block.
     fn take_block(&self, parts: &Parts, from: &State, next: &mut Level) -> Result<(), AllocError> {
         match parts.block_at(self.first, self.room) {
             Some(block) => {
@@ -75,7 +75,7 @@ impl Candidate {
         }
     }
 
-    /// The longest range, where the last entry ends.
+    /// Takes the longest range, from where the last entry ends.
     fn take_chain(&self, parts: &Parts, from: &State, next: &mut Level) -> Result<(), AllocError> {
         let end = parts.top_at(self.room.end);
         match from.chain {
@@ -87,7 +87,7 @@ impl Candidate {
         }
     }
 
-    /// The longest range, and before it an entry that is off for where it begins.
+    /// Takes the longest range, and before it an entry that is OFF for its beginning.
     fn take_two(&self, parts: &Parts, from: &State, next: &mut Level) -> Result<(), AllocError> {
         let (start, end) = (self.first, parts.top_at(self.room.end));
         if end <= start {
@@ -100,7 +100,7 @@ impl Candidate {
     }
 }
 
-/// The candidate for a part with a rule, where it may come next.
+/// Returns the candidate for a part with a rule, if it may come next.
 fn candidate_for(parts: &Parts, from: &State, index: usize, rule: u8) -> Option<Candidate> {
     let left = from.left_of(index)?;
     let part = parts.list.get(index)?;
@@ -117,7 +117,7 @@ fn candidate_for(parts: &Parts, from: &State, index: usize, rule: u8) -> Option<
     })
 }
 
-/// Offers what one entry more, or two, leads to.
+/// Offers the states that one more entry, or two, leads to.
 pub fn expand(parts: &Parts, from: &State, next: &mut Next<'_>) -> Result<(), AllocError> {
     for index in 0..PARTS {
         for choice in parts.list[index].choices {

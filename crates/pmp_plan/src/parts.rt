@@ -1,4 +1,4 @@
-//! The bytes of a plan, in parts of which one thing is asked.
+//! The bytes of a plan, divided into parts by what is asked for.
 
 use crate::choices::choices;
 use crate::plan_row::{Demand, PlanRow};
@@ -6,21 +6,21 @@ use crate::rows::{row_at, unnamed_to};
 use crate::security::Security;
 use pmp_core::{ADDRESS_LIMIT, ByteRange, Hart, MAX_ADDRESS_BITS};
 
-/// The most parts that are searched: sixty-four entries give no more ranges of bytes.
+/// The greatest number of parts that are searched: sixty-four entries give no more ranges of bytes.
 pub const PARTS: usize = 129;
 
-/// Bytes side by side of which one thing is asked.
+/// Contiguous bytes that one thing is asked for.
 #[derive(Clone, Copy)]
 pub struct Part {
     pub bytes: ByteRange,
     pub demand: Demand,
     /// The rules that give it.
     pub choices: [Option<u8>; 2],
-    /// Whether entries have to own the bytes: without one they have other rights, or aren't held.
+    /// Whether entries must own the bytes: otherwise they have other rights, or aren't held.
     pub is_needed: bool,
 }
 
-/// What entries are looked for.
+/// The problem that entries are sought for.
 #[derive(Clone, Copy)]
 pub struct Parts {
     pub hart: Hart,
@@ -30,7 +30,7 @@ pub struct Parts {
 }
 
 impl Parts {
-    /// The parts of a plan, or none where there are too many.
+    /// Returns the parts of a plan, or none if there are too many.
     pub fn of(hart: Hart, security: Security, rows: &[PlanRow<'_>]) -> Option<Parts> {
         let rest = Demand {
             rights: security.rest(),
@@ -73,12 +73,12 @@ impl Parts {
         Some(())
     }
 
-    /// The end of the bytes that entries of the hart can match.
+    /// Returns the end of the bytes that entries of the hart can match.
     pub fn end(&self) -> u64 {
         self.hart.word_addresses().saturating_mul(4)
     }
 
-    /// The largest naturally aligned block round the byte that lies in the room, from a grain on.
+    /// Returns the largest naturally aligned block around the byte that lies in the room, at least a grain.
     pub fn block_at(&self, byte: u64, room: ByteRange) -> Option<ByteRange> {
         let mut found = None;
         for bits in self.hart.grain() + 2..self.hart.address_bits().min(MAX_ADDRESS_BITS) + 1 {
@@ -92,7 +92,7 @@ impl Parts {
         found
     }
 
-    /// The highest address up to this one at which a top of range ends.
+    /// Returns the highest address up to this one at which a top of range ends.
     pub fn top_at(&self, end: u64) -> u64 {
         let last = self.hart.word_addresses().saturating_sub(1);
         self.hart.tor_address(last.min(end / 4)).saturating_mul(4)

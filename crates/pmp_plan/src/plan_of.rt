@@ -1,4 +1,4 @@
-//! The plan that registers amount to.
+//! The plan that registers implement.
 
 ghost use Rattle.std.specs.Prelude.{◌≡◌, ◌<◌, IfErr, IfOk, IfSome, IsTrue, OnOk, length};
 ghost use Rattle.pmp_plan.specs.PlansOf.{HasNoPlan, IsPlanOf, IsPlanOfScript, PlanOfFails, PlanOfSays};
@@ -17,7 +17,7 @@ use std::alloc::Global;
 use std::fmt;
 use std::io::Write;
 
-/// Rights as a plan has them.
+/// Rights as a plan writes them.
 #[derive(Clone, Copy)]
 struct Letters(Perms);
 
@@ -31,7 +31,7 @@ impl fmt::Display for Letters {
     }
 }
 
-/// The name of a row, after the entry that owns its bytes.
+/// The name of a row, derived from the entry that owns its bytes.
 #[derive(Clone, Copy)]
 struct Owned(Option<u8>);
 
@@ -65,7 +65,7 @@ impl fmt::Display for RunRow {
     }
 }
 
-/// The bits of `mseccfg` that a register file has.
+/// Returns the bits of `mseccfg` that a register file has.
 fn security_of(file: &RegFile) -> Security {
     let value = file.read(Csr::Mseccfg);
     Security {
@@ -75,7 +75,7 @@ fn security_of(file: &RegFile) -> Security {
     }
 }
 
-/// What the registers give the bytes of this owner.
+/// Returns what the registers give the bytes of this owner.
 fn demand_by(registers: &Registers<'_>, owner: Option<u8>) -> Demand
     requires { IfSome owner (λ entry. entry < length registers.now.entries) }
 {
@@ -85,7 +85,7 @@ fn demand_by(registers: &Registers<'_>, owner: Option<u8>) -> Demand
     }
 }
 
-/// The text by itself: a row for each run of bytes that isn't left as no entry leaves it, or is held.
+/// Returns the text by itself: a row for each run of bytes, except those left as without entries and not held.
 fn text_of(alloc: Global, file: &RegFile, security: Security) -> Result<Vec<u8>, NoMemory> {
     let registers = file.registers();
     let rest = Demand {
@@ -107,7 +107,7 @@ fn text_of(alloc: Global, file: &RegFile, security: Security) -> Result<Vec<u8>,
     Ok(text)
 }
 
-/// Whether the text is read as a plan with no byte in two rows that the register file meets.
+/// Whether the text reads as a plan with no byte in two rows that the register file meets.
 fn is_plan_of(alloc: Global, text: &[u8], file: &RegFile, security: Security) -> bool
     ensures { IsTrue result → IsPlanOf file.now text.now }
 {
@@ -117,7 +117,7 @@ fn is_plan_of(alloc: Global, text: &[u8], file: &RegFile, security: Security) ->
     }
 }
 
-/// The plan that the registers amount to which a script leaves: it is read back, and judged by them.
+/// Returns the plan that the final registers of a script implement: it is read back, and checked against them.
 fn plan_text(alloc: Global, script: &[u8]) -> Result<Vec<u8>, AnswerFault>
     ensures ok { IfOk result (λ text. IsPlanOfScript script.now text.items) }
     ensures err { IfErr result (HasNoPlan script.now) }
@@ -134,7 +134,7 @@ fn plan_text(alloc: Global, script: &[u8]) -> Result<Vec<u8>, AnswerFault>
     Ok(text)
 }
 
-/// Writes the plan that the registers amount to which a script leaves. It is whole before its first byte is written.
+/// Writes the plan that the final registers of a script implement. It is complete before its first byte is written.
 pub fn write_plan_of<W: Write>(
     alloc: Global,
     script: &[u8],

@@ -9,21 +9,21 @@ use pmp_map::ModeRights;
 use pmp_names::{is_name, split_comma};
 use pmp_text::{Flaw, Refusal, read_rights, read_word_number};
 
-/// What a plan asks of a byte.
+/// What a plan asks for a byte.
 #[derive(Clone, Copy, Debug, PartialEq, Eq)]
 pub struct Demand {
-    /// What machine mode may do with it, and what the other two may do, and nothing else.
+    /// Exactly what M-mode may do with it, and what S-mode and U-mode may do.
     pub rights: ModeRights,
     /// Whether it is held: its owner and all entries before that are frozen.
     pub is_locked: bool,
 }
 
-/// A row of a plan: what is asked of each byte from `first` to `last`.
+/// A row of a plan: what is asked for each byte from `first` to `last`.
 #[derive(Clone, Copy)]
 pub struct PlanRow<'a> {
     /// The byte address of the first byte.
     pub first: u64,
-    /// That of the last byte.
+    /// The byte address of the last byte.
     pub last: u64,
     pub demand: Demand,
     pub name: &'a [u8],
@@ -42,7 +42,7 @@ pub struct Words<'a> {
     pub name: &'a [u8],
 }
 
-/// The six fields of a line, of which the last is what stands behind the fifth comma.
+/// Returns the six fields of a line; the last is all that follows the fifth comma.
 #[tactic(auto, unfolding(crate::specs::Fields::fields_of))]
 fn split_fields(line: &[u8]) -> Option<Words<'_>>
     ensures { option_map seen result ≡ fields_of line.now }
@@ -84,7 +84,7 @@ fn read_lock(word: &[u8]) -> Option<bool>
 impl<'a> Words<'a> {
     ghost use Rattle.pmp_plan.specs.Fields.{bytes_said, demand_said};
 
-    /// The first and the last byte.
+    /// Returns the first and the last byte.
     #[tactic(auto, unfolding(crate::specs::Fields::bytes_said))]
     fn bytes(&self) -> Result<(u64, u64), Flaw>
         ensures said { result ≡ bytes_said (seen self.now) }
@@ -101,7 +101,7 @@ impl<'a> Words<'a> {
         Ok((first, last))
     }
 
-    /// What is asked of them.
+    /// Returns what is asked for them.
     #[tactic(auto, unfolding(crate::specs::Fields::demand_said))]
     fn demand(&self) -> Result<Demand, Flaw>
         ensures { result ≡ demand_said (seen self.now) }
@@ -121,7 +121,7 @@ impl<'a> PlanRow<'a> {
     ghost use Rattle.pmp_plan.specs.Plans.{is_in};
     ghost use Rattle.pmp_plan.specs.KeptRows.{said_so};
 
-    /// The row that a line says, or which of its fields is at fault.
+    /// Returns the row in a line, or which of its fields is at fault.
     #[tactic(auto, unfolding(crate::specs::PlanTexts::row_of_fields))]
     pub fn read(line: &'a [u8]) -> Result<PlanRow<'a>, Flaw>
         ensures { said_so result ≡ row_said line.now }

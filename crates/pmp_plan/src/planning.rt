@@ -20,16 +20,16 @@ use arrayvec::ArrayVec;
 use pmp_core::{Csr, Event, Hart, MAX_ENTRIES, Profile, RegFile};
 use std::alloc::Global;
 
-/// Writes that leave registers which meet a plan, on a hart that was reset.
+/// Writes to a hart after reset that leave registers which meet a plan.
 #[derive(Drop)]
 pub struct Planned {
     pub hart: Hart,
-    /// How many entries they write.
+    /// The number of entries they write.
     pub entries: usize,
     pub writes: ArrayVec<Event, WRITES>,
 }
 
-/// The writes for these entries, where they leave registers that meet the plan: they are run on a unit of the hart.
+/// Returns the writes for these entries, if the registers after them meet the plan: they are run on a unit of the hart.
 fn judged(
     hart: Hart,
     security: Security,
@@ -52,7 +52,7 @@ fn judged(
     })
 }
 
-/// The same of a hart with so many entries.
+/// Returns the same hart with the given number of entries.
 fn with_entries(hart: Hart, entries: u8) -> Option<Hart>
     requires { entries ≤ MAX_ENTRIES }
     ensures { IfSome result (λ wide. wide ≡ record hart { entries = entries }) }
@@ -64,7 +64,7 @@ fn with_entries(hart: Hart, entries: u8) -> Option<Hart>
     Hart::new(profile).ok()
 }
 
-/// Whether as many entries do, where a hart can have so many.
+/// Whether this many entries are enough, if a hart can have so many.
 fn is_enough(
     hart: Hart,
     security: Security,
@@ -83,7 +83,7 @@ fn is_enough(
     }
 }
 
-/// Which of the rows takes most of the entries, and how many.
+/// Returns which of the rows takes the most entries, and how many.
 fn costliest(parts: &Parts, state: &State, rows: &[PlanRow<'_>]) -> (usize, usize) {
     let (mut costly, mut takes) = (0, 0);
     for (index, row) in rows.iter().enumerate() {
@@ -95,7 +95,7 @@ fn costliest(parts: &Parts, state: &State, rows: &[PlanRow<'_>]) -> (usize, usiz
     (costly, takes)
 }
 
-/// The writes for a sound plan with rows.
+/// Returns the writes for a sound plan with rows.
 fn found(
     alloc: Global,
     hart: Hart,
@@ -121,7 +121,7 @@ fn found(
     Err(PlanFault::FewEntries { found, row, takes })
 }
 
-/// `mseccfg`, where a bit of it is asked for.
+/// Returns the write of `mseccfg`, if one of its bits is asked for.
 fn security_writes(security: Security) -> ArrayVec<Event, WRITES>
     ensures { result.items ≡ security_writes security }
 {
@@ -133,7 +133,7 @@ fn security_writes(security: Security) -> ArrayVec<Event, WRITES>
     writes
 }
 
-/// The writes for a plan without rows.
+/// Returns the writes for a plan without rows.
 fn of_no_rows(hart: Hart, security: Security) -> Planned
     requires kept { hart.has_smepmp ≡ false → security ≡ no_security }
     ensures met { (count : ℕ) → 0 < count → let of = record hart { entries = count } in
@@ -147,13 +147,13 @@ fn of_no_rows(hart: Hart, security: Security) -> Planned
     }
 }
 
-/// Writes for a hart that was reset, which leave registers that give each byte of each row exactly the row's rights,
-/// hold it where the row is locked, and leave every other byte as no entry leaves it.
+/// Returns writes for a hart after reset, which leave registers that give each byte of each row exactly the row's
+/// rights, hold it if the row is locked, and leave every other byte as without entries.
 ///
-/// What is written is run on a unit of the hart, and judged, before it is answered, so that the search can only refuse.
-/// The first of these is answered: two rows that have a byte in common; a row that begins or ends inside a grain, or
-/// has bytes above the hart's addresses; a bit of `mseccfg` that the hart doesn't keep; a row whose rights no entry
-/// gives; more entries than there are; `Stopped`, which a plan without rows never is.
+/// The writes are run on a unit of the hart, and judged, before they are returned, so the search can only refuse. The
+/// first of these is reported: two rows that have a byte in common; a row that begins or ends inside a grain, or has
+/// bytes above the hart's addresses; a bit of `mseccfg` that the hart doesn't keep; a row whose rights no entry gives;
+/// more entries than there are; `Stopped`, which a plan without rows never is.
 pub fn plan(
     alloc: Global,
     hart: Hart,

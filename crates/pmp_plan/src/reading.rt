@@ -1,4 +1,4 @@
-//! The rows of a plan that a text gives.
+//! The rows of a plan in a text.
 
 ghost use Rattle.std.specs.Prelude.{◌≡◌, ◌⊎◌, ◌++◌, ◌∷◌, [], Err, IfErr, IfOk, Ok, OnOk, map};
 ghost use Rattle.pmp_text.specs.Lines.{lines};
@@ -19,12 +19,12 @@ fn no_header() -> TraceFault
     Refusal::BadHeader.whole().at_row(0)
 }
 
-/// The rows that a text gives: the line `first,last,m,su,locked,name`, and a line with these six fields for each, as
-/// `0x80000000,0x8001ffff,r-x,---,yes,firmware`.
+/// Returns the rows in a text: the line `first,last,m,su,locked,name`, and a line with these six fields for each row,
+/// such as `0x80000000,0x8001ffff,r-x,---,yes,firmware`.
 ///
-/// `BadHeader` where the first line is another; `BadRow` where a row isn't one, and which of its fields isn't, if it
-/// has six: a number, a number that isn't less, rights as `rw-`, rights, `yes` or `no`, or a name; `PastEnd` where its
-/// last byte is none; `Memory`, at row 0.
+/// `BadHeader` if the first line differs; `BadRow` if a row is invalid, with its invalid field if it has six: a number,
+/// a number that isn't less, rights such as `rw-`, rights, `yes` or `no`, or a name; `PastEnd` if its last byte doesn't
+/// exist; `Memory`, at row 0.
 pub fn read_plan<'a>(alloc: Global, text: &'a [u8]) -> Result<Vec<PlanRow<'a>>, TraceFault>
     ensures ok { IfOk result (λ rows. plan_said text.now ≡ Ok (map said rows.items)) }
     ensures err { IfErr result (λ fault. (fault ≡ no_memory_for_rows) ⊎ (plan_said text.now ≡ Err fault)) }

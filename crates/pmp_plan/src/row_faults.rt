@@ -17,7 +17,7 @@ fn are_apart(one: &PlanRow<'_>, other: &PlanRow<'_>) -> bool
     one.last < other.first || other.last < one.first
 }
 
-/// The first two rows that have a byte in common.
+/// Returns the first two rows that have a byte in common.
 pub fn overlap(rows: &[PlanRow<'_>]) -> Option<(usize, usize)>
     ensures { MatchOption result (AllPairs AreApart rows.now) (λ pair. AreOverlapping rows.now pair.0 pair.1) }
 {
@@ -31,7 +31,7 @@ pub fn overlap(rows: &[PlanRow<'_>]) -> Option<(usize, usize)>
     None
 }
 
-/// Whether a byte address is inside a grain, and not where one begins.
+/// Whether a byte address is inside a grain, and not at its beginning.
 fn is_inside(hart: Hart, byte: u64) -> bool
     ensures { result ≡ is_inside hart byte }
 {
@@ -39,7 +39,7 @@ fn is_inside(hart: Hart, byte: u64) -> bool
     byte >> bits << bits != byte
 }
 
-/// What is wrong with a row by itself.
+/// Returns what is wrong with a row by itself.
 fn flaw_of(hart: Hart, index: usize, row: &PlanRow<'_>) -> Option<PlanFault>
     ensures { MatchOption result (IsFit hart row.now) (IsFlawOf hart index row.now) }
 {
@@ -61,8 +61,8 @@ fn flaw_of(hart: Hart, index: usize, row: &PlanRow<'_>) -> Option<PlanFault>
     None
 }
 
-/// Whether the rows are those of a plan for the hart: no two have a byte in common, and each begins and ends where
-/// grains do, below the end of its addresses.
+/// Checks that the rows are those of a plan for the hart: no two have a byte in common, and each begins and ends at
+/// grain boundaries, below the end of its addresses.
 pub fn check_rows(hart: Hart, rows: &[PlanRow<'_>]) -> Result<(), PlanFault>
     ensures apart { OnOk result (AllPairs AreApart rows.now) }
     ensures fit { OnOk result (All (IsFit hart) rows.now) }

@@ -13,7 +13,7 @@ use pmp_core::{BATCH_EVENTS, Event, Hart, RegFile};
 use pmp_text::{FixedLog, NoMemory, RegisterName, Sink, append_line, read_script, write_script};
 use std::fmt;
 
-/// The most bytes of a script: of a head, and of a line for each write.
+/// The greatest length of a script in bytes: a head, and a line for each write.
 const SCRIPT: usize = 8192;
 
 /// The line of an event.
@@ -32,7 +32,7 @@ impl fmt::Display for EventLine {
     }
 }
 
-/// The script by itself: what the hart is, and the writes, with a publication behind the last and wherever one is full.
+/// Returns the script by itself: the hart, and the writes, with a publication after the last and wherever one is full.
 fn script_of(hart: Hart, writes: &[Event]) -> Result<ArrayVec<u8, SCRIPT>, NoMemory> {
     let mut text = ArrayVec::new();
     write_script(&mut text, &RegFile::reset_on(hart))?;
@@ -46,7 +46,7 @@ fn script_of(hart: Hart, writes: &[Event]) -> Result<ArrayVec<u8, SCRIPT>, NoMem
     Ok(text)
 }
 
-/// Whether the text is read as a script that begins with a reset and leaves registers which meet the plan.
+/// Whether the text reads as a script that begins with a reset and leaves registers that meet the plan.
 fn means_plan(text: &[u8], hart: Hart, security: Security, rows: &[PlanRow<'_>]) -> bool
     ensures { IsTrue result → MeansPlan hart security rows.now text.now }
 {
@@ -62,8 +62,8 @@ fn means_plan(text: &[u8], hart: Hart, security: Security, rows: &[PlanRow<'_>])
     meets(&file, hart, security, rows)
 }
 
-/// Appends the script of version 3 that makes these writes on a hart that was reset, where the registers that it leaves
-/// meet the plan: it is read back and judged before it is appended.
+/// Appends the script of version 3 that makes these writes on a hart after reset, if the registers that it leaves meet
+/// the plan: it is read back and judged before it is appended.
 pub fn append_script<S: Sink>(
     out: &mut S,
     planned: &Planned,

@@ -1,4 +1,4 @@
-//! Few entries for a plan.
+//! The search for a small number of entries for a plan.
 
 use crate::level::Level;
 use crate::moves::{Next, expand};
@@ -6,7 +6,7 @@ use crate::parts::Parts;
 use crate::state::{FOUND, State};
 use std::alloc::{AllocError, Global};
 
-/// The state whose entries give all that is asked, if one is kept.
+/// Returns the state whose entries give all that is asked for, if one is kept.
 fn finished(level: &Level) -> Option<State> {
     for state in &level.states {
         if state.cost == 0 {
@@ -16,11 +16,11 @@ fn finished(level: &Level) -> Option<State> {
     None
 }
 
-/// As few entries as are found for the parts, or none where so many were not enough.
+/// Returns as few entries as are found for the parts, or none if the greatest number was not enough.
 ///
-/// It is a beam search. A state is what the first entries leave of each part, and where a TOR entry behind them could
-/// begin; a move is the largest naturally aligned block or the longest range round what is left of a part, over what
-/// entries before it own. `Level` keeps the best states of each number of entries.
+/// This is a beam search. A state is what the first entries leave of each part, and where a TOR entry after them could
+/// begin; a move is the largest naturally aligned block or the longest range around the rest of a part, across what
+/// earlier entries own. `Level` keeps the best states of each number of entries.
 pub fn search(alloc: Global, parts: &Parts) -> Result<Option<State>, AllocError> {
     let mut here = Level::new(alloc);
     let mut one = Level::new(alloc);

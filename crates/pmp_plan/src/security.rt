@@ -21,21 +21,21 @@ impl Security {
         rlb: false,
     };
 
-    /// RLB alone.
+    /// RLB only.
     pub const BYPASS: Security = Security {
         mml: false,
         mmwp: false,
         rlb: true,
     };
 
-    /// The register's value.
+    /// Returns the register's value.
     pub fn value(self) -> u64
         ensures { result ≡ security_value self }
     {
         u64::from(self.mml) + 2 * u64::from(self.mmwp) + 4 * u64::from(self.rlb)
     }
 
-    /// What the modes may do with a byte that no row names: what no entry gives.
+    /// Returns what the modes may do with a byte that no row names, as without entries.
     pub fn rest(self) -> ModeRights
         ensures { result ≡ rest_rights self }
     {

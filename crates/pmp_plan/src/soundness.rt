@@ -1,4 +1,4 @@
-//! Whether a plan is sound, before entries are looked for.
+//! The test whether a plan is sound, before entries are sought.
 
 ghost use Rattle.std.specs.Prelude.{◌≡◌, All, IfErr, MatchOption, OnOk, Some, slice_get};
 ghost use Rattle.pmp_plan.specs.PlanFaults.{IsSound, Refuses};
@@ -12,7 +12,7 @@ use crate::row_faults::check_rows;
 use crate::security::Security;
 use pmp_core::Hart;
 
-/// The first row whose rights no rule gives, or none that can be held.
+/// Returns the first row whose rights no rule, or no rule that can be held, gives.
 fn unruled(security: Security, rows: &[PlanRow<'_>]) -> Option<usize>
     ensures { MatchOption result (All (λ (row : PlanRow). HasRule security row.demand) rows.now)
         (λ index. (row : PlanRow) × (slice_get rows.now index ≡ Some row) × ¬ (HasRule security row.demand)) }
@@ -25,7 +25,7 @@ fn unruled(security: Security, rows: &[PlanRow<'_>]) -> Option<usize>
     None
 }
 
-/// Whether nothing is wrong with a plan by itself.
+/// Checks a plan by itself.
 pub fn check_plan(hart: Hart, security: Security, rows: &[PlanRow<'_>]) -> Result<(), PlanFault>
     ensures ok { OnOk result (IsSound hart security rows.now) }
     ensures err { IfErr result (Refuses hart security rows.now) }

@@ -1,10 +1,10 @@
-//! How far entries have come to what a plan asks.
+//! The progress of entries towards what a plan asks for.
 
 use crate::cost::cost;
 use crate::parts::{PARTS, Parts};
 use pmp_core::ByteRange;
 
-/// The most entries that are searched for: more than a hart has, to tell how many a plan takes.
+/// The greatest number of entries that are searched for: more than a hart has, to report how many a plan takes.
 pub const FOUND: usize = 96;
 
 /// An entry: its configuration byte, its word address, and which of the parts it was chosen for.
@@ -15,23 +15,23 @@ pub struct Chosen {
     pub part: usize,
 }
 
-/// The first entries, and what they leave to those behind them.
+/// The first entries, and what they leave to later ones.
 #[derive(Clone, Copy)]
 pub struct State {
-    /// What no entry owns yet, of each part.
+    /// The bytes of each part that no entry owns yet.
     pub left: [ByteRange; PARTS],
-    /// Where the range of a TOR entry behind the last one can begin to be of use.
+    /// Where the range of a TOR entry after the last one can usefully begin.
     pub chain: Option<u64>,
     /// Whether all entries are frozen.
     pub is_frozen: bool,
-    /// How many entries what is left may take, roughly.
+    /// A rough estimate of the entries that the rest takes.
     pub cost: usize,
     pub entries: [Chosen; FOUND],
     pub count: usize,
 }
 
 impl State {
-    /// No entries.
+    /// Returns the state without entries.
     pub fn beginning(parts: &Parts) -> State {
         let mut left = [ByteRange::EMPTY; PARTS];
         for index in 0..PARTS {
@@ -53,12 +53,12 @@ impl State {
         state
     }
 
-    /// The entries, in their order.
+    /// Returns the entries, in order.
     pub fn entries(&self) -> &[Chosen] {
         &self.entries[..self.count.min(FOUND)]
     }
 
-    /// How many of the entries were chosen for the part that begins at this byte.
+    /// Returns how many of the entries were chosen for the part that begins at this byte.
     pub fn chosen_at(&self, parts: &Parts, byte: u64) -> usize {
         let mut count = 0usize;
         for entry in self.entries() {
@@ -75,7 +75,7 @@ impl State {
         self.left == other.left && self.chain == other.chain && self.is_frozen == other.is_frozen
     }
 
-    /// What is left of a part, if anything is.
+    /// Returns the rest of a part, if anything is left of it.
     pub fn left_of(&self, index: usize) -> Option<ByteRange> {
         match self.left.get(index) {
             Some(left) if left.start < left.end => Some(*left),
@@ -83,7 +83,7 @@ impl State {
         }
     }
 
-    /// The bytes round what is left of a part in which an entry for it finds nothing that asks for another.
+    /// Returns the bytes around the rest of a part in which an entry for it meets no rest that asks for another.
     pub fn room(&self, parts: &Parts, index: usize, is_frozen: bool) -> ByteRange {
         let mut room = ByteRange {
             start: 0,
@@ -109,7 +109,7 @@ impl State {
         room
     }
 
-    /// Behind one entry more, which owns what of these bytes is left.
+    /// Returns the state after one more entry, which owns the unowned ones of these bytes.
     pub fn behind(&self, parts: &Parts, entry: Chosen, bytes: ByteRange, is_frozen: bool) -> State {
         let mut next = *self;
         next.push(entry);
@@ -129,7 +129,7 @@ impl State {
         self.count = self.count.saturating_add(1);
     }
 
-    /// Where the first bytes begin that a range from this byte on can have.
+    /// Returns where the first bytes begin that a range from this byte on can have.
     fn chain_from(&self, byte: u64) -> Option<u64> {
         let mut found = None;
         for index in 0..PARTS {
@@ -148,7 +148,7 @@ impl State {
     }
 }
 
-/// What the bytes leave of a range: none of them at its beginning or its end.
+/// Returns what the bytes leave of a range: none of them at its beginning or its end.
 fn without(left: ByteRange, bytes: ByteRange) -> ByteRange {
     if left.start >= left.end || bytes.end <= left.start || left.end <= bytes.start {
         left

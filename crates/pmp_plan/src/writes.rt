@@ -1,31 +1,31 @@
-//! The writes that leave entries behind a reset.
+//! The writes that produce entries after a reset.
 
 use crate::security::Security;
 use crate::state::Chosen;
 use arrayvec::ArrayVec;
 use pmp_core::{Csr, Event, Hart};
 
-/// The most writes: `mseccfg` three times, each address register, and each configuration register twice.
+/// The greatest number of writes: `mseccfg` three times, each address register, and each configuration register twice.
 pub const WRITES: usize = 128;
 
-/// How many numbers configuration registers have.
+/// The number of configuration register numbers.
 const CONFIGURATIONS: u8 = 16;
 
 /// Writes in their order.
 #[derive(Drop)]
 struct Writes {
     list: ArrayVec<Event, WRITES>,
-    /// What `mseccfg` has behind them.
+    /// The value of `mseccfg` after them.
     security: Security,
 }
 
-/// Whether a configuration is stored only where MML is 1: W without R.
+/// Whether a configuration is stored only while MML is 1: W without R.
 fn needs_lockdown(entry: &Chosen) -> bool {
     entry.configuration % 4 == 2
 }
 
-/// What an entry has until MML is 1. In the place of a locked rule of W without R, by which M-mode executes, it has one
-/// of R and X, by which it does so before MML is 1 and after.
+/// Returns the byte of an entry until MML is 1. A locked rule of W without R, by which M-mode executes, is replaced by
+/// one of R and X, by which it does so before MML is 1 and after.
 fn before_lockdown(entry: &Chosen) -> u8 {
     match entry.configuration {
         configuration if !needs_lockdown(entry) => configuration,
@@ -34,7 +34,7 @@ fn before_lockdown(entry: &Chosen) -> u8 {
     }
 }
 
-/// The bytes of so many entries from this one on, as a configuration register has them.
+/// Returns the bytes of the given number of entries from this one on, as in a configuration register.
 fn word(entries: &[Chosen], first: usize, count: usize, is_locked_down: bool) -> u64 {
     let mut bytes = [0; 8];
     for place in 0..bytes.len() {
@@ -82,11 +82,11 @@ impl Writes {
     }
 }
 
-/// The writes that leave these entries and these bits of `mseccfg` on a hart that was reset.
+/// Returns the writes that leave these entries and these bits of `mseccfg` on a hart after reset.
 ///
-/// RLB is set first, where MML or RLB is asked for: entries may then be locked, and be executable, in any order, and
-/// M-mode goes on by them once MML is set. Addresses come before configurations, so that no entry matches bytes on the
-/// way that it doesn't match in the end.
+/// RLB is set first, if MML or RLB is asked for: entries may then be locked, and be executable, in any order, and
+/// M-mode continues to execute by them once MML is set. Addresses come before configurations, so that no entry matches
+/// bytes on the way that it doesn't match in the end.
 pub fn writes_of(hart: Hart, security: Security, entries: &[Chosen]) -> ArrayVec<Event, WRITES> {
     let mut writes = Writes {
         list: ArrayVec::new(),

@@ -1,4 +1,4 @@
-//! Batches: what is published whole.
+//! Batches: groups of events that are published as a whole.
 
 ghost use Rattle.std.specs.Prelude.{◌≡◌, ◌<◌, ◌≤◌, ◌↔◌, [], ◌∷◌, ◌++◌, List, length, Err, IfOk, OnOk, OnErr};
 ghost use Rattle.pmp_core.specs.declared.event.Event.{Event};
@@ -8,7 +8,7 @@ use arrayvec::ArrayVec;
 use pmp_core::{BATCH_EVENTS, Event};
 use std::marker::Model;
 
-/// A batch that holds no more events: it has `BATCH_EVENTS` already.
+/// A batch takes no more events: it has `BATCH_EVENTS` already.
 #[derive(Clone, Copy, Debug, PartialEq, Eq)]
 pub struct BatchFull;
 
@@ -25,7 +25,7 @@ impl Model for Batch {
 }
 
 impl Batch {
-    /// A batch of no events.
+    /// Returns a batch without events.
     pub fn new() -> Batch
         ensures { result ≡ [] }
     {
@@ -34,7 +34,7 @@ impl Batch {
         }
     }
 
-    /// A batch of these events.
+    /// Returns a batch of these events.
     pub fn of(events: &[Event]) -> Result<Batch, BatchFull>
         ensures made { IfOk result (λ batch. batch ≡ events.now) }
         ensures full { (result ≡ Err (record {})) ↔ (BATCH_EVENTS < length events.now) }
@@ -45,7 +45,7 @@ impl Batch {
         }
     }
 
-    /// Adds an event behind the others.
+    /// Adds an event after the others.
     pub fn push(&mut self, event: Event) -> Result<(), BatchFull>
         ensures added { OnOk result (self.new ≡ self.old ++ event ∷ []) }
         ensures refused { OnErr result (self.new ≡ self.old) }
@@ -58,7 +58,7 @@ impl Batch {
         Ok(())
     }
 
-    /// Its events.
+    /// Returns its events.
     pub fn events(&self) -> &[Event]
         ensures events { result.now ≡ self.now }
         ensures limit { length result.now ≤ BATCH_EVENTS }

@@ -30,9 +30,9 @@ pub struct Moved {
     pub seen: u64,
 }
 
-/// Decides accesses in whole published batches, and never falls behind what it saw or learnt of. It keeps nothing
-/// entered between its calls, and can go to any thread. A contract sees the batches that it knows, and of which unit
-/// they are.
+/// Decides accesses in whole published batches, and never falls behind what it has seen or learnt. It holds no
+/// version entered between its calls, and can be sent to any thread. A contract sees the batches that it knows, and
+/// which unit they belong to.
 #[derive(Drop)]
 pub struct Checker {
     state: ReaderState,
@@ -47,14 +47,14 @@ impl Model for Checker {
 }
 
 impl Checker {
-    /// A checker that knows what is known there.
+    /// Returns a checker that knows what this state knows.
     pub(crate) fn new(state: ReaderState) -> Checker
         ensures { result ≡ state }
     {
         Checker { state }
     }
 
-    /// Takes in a notice of its own unit. From now on it decides in nothing less.
+    /// Takes in a notice of its own unit. From now on it decides with at least these batches.
     #[tactic(auto, using(crate::proofs::LookFacts::begins_fewer))]
     pub fn learn(&mut self, notice: Notice)
         requires unit { notice.unit ≡ self.old.unit }
@@ -70,7 +70,7 @@ impl Checker {
         }
     }
 
-    /// Decides an access in what is published, and returns how many events that is. It waits for nobody.
+    /// Decides an access in what is published, and returns the number of events of that. It never waits.
     pub fn decide(&mut self, access: &Access) -> (Decision, u64)
         ensures look { IsLook self.old self.new result.1 }
         ensures decided { Decides self.new.unit.base self.new.list access.now result.0 }
@@ -79,7 +79,7 @@ impl Checker {
         self.state.look(access)
     }
 
-    /// Decides an access in what is published, if that is just `len` events. It waits for nobody.
+    /// Decides an access in what is published, if that is exactly `len` events. It never waits.
     pub fn decide_at(&mut self, len: u64, access: &Access) -> Result<Decision, Moved>
         requires reached { len ≤ event_count self.old.list }
         ensures look { IsLook self.old self.new (event_count self.new.list) }
@@ -97,8 +97,8 @@ impl Checker {
     }
 
     /// Decides a group of accesses in what is published, all in the same batches. Returns the decisions in the order of
-    /// the accesses, and how many events that is. It waits for nobody and takes no memory. An emulator takes a group for
-    /// the elements of a vector access, between which no publication may come.
+    /// the accesses, and the number of events. It never waits and allocates nothing. An emulator uses a group for the
+    /// elements of a vector access, between which no publication may fall.
     pub fn decide_group(&mut self, accesses: &[Access]) -> (ArrayVec<Decision, GROUP_ACCESSES>, u64)
         requires { length accesses.now ≤ GROUP_ACCESSES }
         ensures look { IsLook self.old self.new result.1 }
@@ -108,9 +108,9 @@ impl Checker {
         self.state.look(&Group { accesses })
     }
 
-    /// What the mode may do in the whole range of `length` bytes from byte address `start` on, as a page, in what is
-    /// published, and how many events that is. It is none where no one owner has all bytes of the range: then each
-    /// access is decided by itself. It waits for nobody and takes no memory. An emulator fills its TLB by it.
+    /// Returns what the mode may do in the whole range of `length` bytes from byte address `start` on, such as a page,
+    /// in what is published, and the number of events; none if no one owner has all bytes of the range: then each
+    /// access is decided by itself. It never waits and allocates nothing. An emulator uses it to fill its TLB.
     pub fn rights(&mut self, mode: Mode, start: u64, length: u64) -> (Option<Perms>, u64)
         requires full { 0 < length }
         requires inside { start + length ≤ ADDRESS_LIMIT }
@@ -124,16 +124,16 @@ impl Checker {
         })
     }
 
-    /// How many events are published. If that isn't the count of a TLB, flush the TLB. It waits for nobody and takes no
-    /// memory.
+    /// Returns how many events are published. If a TLB was filled at another count, flush it. It never waits and
+    /// allocates nothing.
     pub fn count(&mut self) -> u64
         ensures look { IsLook self.old self.new result }
     {
         self.state.look(&Count).1
     }
 
-    /// What the register reads in what is published, and how many events that is. It waits for nobody and takes no
-    /// memory.
+    /// Returns what the register reads in what is published, and the number of events. It never waits and allocates
+    /// nothing.
     pub fn read(&mut self, csr: Csr) -> (u64, u64)
         ensures look { IsLook self.old self.new result.1 }
         ensures value { result.0 ≡ register_value (file_of self.new) csr }
@@ -141,8 +141,8 @@ impl Checker {
         self.state.look(&csr)
     }
 
-    /// A copy of what is published. `NoPlace` where no entrance is given, as after the publisher's end, and `Memory`
-    /// where memory is refused.
+    /// Returns a copy of what is published. `NoPlace` if no entrance is given, as after the publisher's end, and
+    /// `Memory` if memory is refused.
     pub fn copy_journal(&mut self) -> Result<Journal, ShareFault>
         ensures look { IsLook self.old self.new (event_count self.new.list) }
         ensures copied { IfOk result (λ journal. journal ≡ self.new.list) }

@@ -1,4 +1,4 @@
-//! What is kept of the batches that a checker or a notice knows.
+//! Digests of the batches that a checker or a notice knows.
 
 ghost use Rattle.std.specs.Prelude.{◌≡◌, MatchBool};
 ghost use Rattle.pmp_share.specs.Batches.{StartsWith};
@@ -16,8 +16,8 @@ use pmp_map::rights_in;
 use std::marker::Model;
 use std::snapshot::Snapshot;
 
-/// The register file that batches give, how many events they hold and how many they are. A contract sees the batches,
-/// and of which unit they are.
+/// The register file that batches give, and the numbers of their events and of the batches. A contract sees the
+/// batches, and which unit they belong to.
 #[derive(Drop)]
 pub struct Digest {
     file: RegFile,
@@ -41,7 +41,7 @@ impl Model for Digest {
 }
 
 impl Digest {
-    /// The digest of a version's batches, which its history has.
+    /// Returns the digest of a version's batches, which its history has.
     pub fn of(version: &Version) -> Digest
         requires noted { version.now.history.log ≡ version.now.journal }
         ensures { result ≡ known_of version.now }
@@ -55,7 +55,7 @@ impl Digest {
         }
     }
 
-    /// Makes it that of a version which begins with its batches. It is written where that has more.
+    /// Updates it to a version that begins with its batches. It is written only if the version has more.
     #[inline]
     pub fn catch_up(&mut self, version: &Version)
         requires noted { version.now.history.log ≡ version.now.journal }
@@ -68,7 +68,7 @@ impl Digest {
         }
     }
 
-    /// Writes it anew. A look seldom does, so it stands out of line.
+    /// Writes it anew. Few looks need this, so it is out of line.
     #[cold]
     #[inline(never)]
     fn refresh(&mut self, version: &Version)
@@ -91,8 +91,8 @@ impl Digest {
         self.events < other.events || (self.events == other.events && self.batches <= other.batches)
     }
 
-    /// The same of batches of one unit. Then these are a prefix of the other's, and otherwise the other's are one of
-    /// these.
+    /// Returns the same for batches of one unit. If true, these batches are a prefix of the other's; otherwise
+    /// the other's are a prefix of these.
     pub fn is_before(&self, other: &Digest) -> bool
         requires unit { other.now.unit ≡ self.now.unit }
         ensures late { result ≡ is_as_late self.now.list other.now.list }

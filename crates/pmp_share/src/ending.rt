@@ -1,4 +1,4 @@
-//! A handle that waits for one thing alone: the end of a publisher.
+//! A handle that waits only for the end of a publisher.
 
 ghost use Rattle.std.specs.Prelude.{◌≡◌};
 

@@ -1,4 +1,4 @@
-//! Why a call of a shared unit is refused.
+//! Why a call to a shared unit is refused.
 
 ghost use Rattle.std.specs.Prelude.{◌≡◌};
 
@@ -6,11 +6,11 @@ use std::alloc::{AllocError, AllocFailed};
 
 #[derive(Clone, Copy, Debug, PartialEq, Eq)]
 pub enum ShareFault {
-    /// As many checkers and notices are there as a unit has `PLACES`, or the shared structure refuses one.
+    /// The unit's `PLACES` for checkers and notices are all taken, or the shared structure refuses one.
     NoPlace,
     /// The batch would go past a limit of the unit, in events or in batches.
     Full,
-    /// A growth was refused.
+    /// More memory was refused.
     Memory,
 }
 

@@ -1,4 +1,4 @@
-//! How a journal takes in a batch, with what its events give.
+//! How a journal takes in a batch, and updates what its events give.
 
 ghost use Rattle.std.specs.Prelude.{◌≡◌, ◌∷◌, ◌++◌, [], OnOk, OnErr};
 ghost use Rattle.pmp_core.specs.RegisterFile.{RegisterFile};
@@ -9,8 +9,8 @@ use pmp_core::{Event, RegFile};
 use pmp_map::RunMap;
 use std::alloc::AllocError;
 
-/// Adds a batch to the journal, to the register file that it gives, from any base, and to that file's map. Where memory
-/// is refused nothing changes.
+/// Adds a batch to the journal, to the register file that it gives, from any base, and to that file's map. If memory is
+/// refused nothing changes.
 pub fn grow(
     journal: &mut Journal,
     file: &mut RegFile,

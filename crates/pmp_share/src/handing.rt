@@ -7,7 +7,7 @@ use crate::fault::ShareFault;
 use crate::journal::Journal;
 use crate::writer_state::WriterState;
 
-/// Hands over what isn't handed over of the pending batches.
+/// Hands over the pending batches that aren't handed over yet.
 pub fn hand_over(
     state: &mut WriterState,
     pending: &Journal,

@@ -1,10 +1,10 @@
-//! The history of a unit, batch by batch. It takes no bytes, and makes what was looked at and what was told comparable.
+//! The history of a unit, batch by batch. It takes no bytes, and makes what was seen and what was told comparable.
 
 use logbook::{Gain, Plain, Play, Rule, Seen};
 use pmp_core::Event;
 use std::collections::LinkedList;
 
-/// A beginning of the history.
+/// A prefix of the history.
 pub type History = Seen<LinkedList<Event>, u64, Law>;
 
 /// The book's first word is the length of the history.

@@ -1,4 +1,4 @@
-//! Journals: lists of batches as events and ends side by side.
+//! Journals: lists of batches as events and, beside them, ends.
 
 ghost use Rattle.std.specs.Prelude.{◌≡◌, ℕ, ◌+◌, ◌-◌, ◌<◌, ◌≤◌, [], ◌∷◌, ◌++◌, length, take, drop, OnOk, OnErr};
 ghost use Rattle.std.specs.Prelude.{slice_index, IfOk};
@@ -10,7 +10,7 @@ use pmp_core::Event;
 use std::alloc::{AllocError, Global};
 use std::marker::Model;
 
-/// Batches, kept as their events and, for each batch, how many events stood once it was added. A contract sees the list
+/// Batches, kept as their events and, for each batch, the number of events once it was added. A contract sees the list
 /// of the batches.
 #[derive(Drop)]
 pub struct Journal {
@@ -26,7 +26,7 @@ impl Model for Journal {
     ghost invariant = { λ journal. IsCut journal.ends.items journal.events.items };
 }
 
-/// Where the first batches end, so many of them.
+/// Returns where the given number of first batches end.
 fn end_of(ends: &[u64], batches: usize) -> u64
     requires { batches ≤ length ends.now }
     ensures none { batches ≡ 0 → result ≡ 0 }
@@ -38,7 +38,7 @@ fn end_of(ends: &[u64], batches: usize) -> u64
     ends[batches - 1]
 }
 
-/// Where one batch ends.
+/// Returns where one batch ends.
 fn own_end(ends: &[u64], index: usize) -> u64
     requires { index < length ends.now }
     ensures { result ≡ slice_index ends.now index }
@@ -46,7 +46,7 @@ fn own_end(ends: &[u64], index: usize) -> u64
     ends[index]
 }
 
-/// The events from one number on, up to another.
+/// Returns the events from one index up to another.
 fn part_of(events: &[Event], start: u64, end: u64) -> &[Event]
     requires { (start ≤ end) × (end ≤ length events.now) }
     ensures { result.now ≡ take (end - start) (drop start events.now) }
@@ -55,7 +55,7 @@ fn part_of(events: &[Event], start: u64, end: u64) -> &[Event]
 }
 
 impl Journal {
-    /// A list of no batches.
+    /// Returns a list of no batches.
     pub(crate) fn new(alloc: Global) -> Journal
         ensures { result ≡ [] }
     {
@@ -65,7 +65,7 @@ impl Journal {
         }
     }
 
-    /// How many batches it has.
+    /// Returns how many batches it has.
     pub(crate) fn batches(&self) -> usize
         ensures { result ≡ length self.now }
     {
@@ -73,22 +73,22 @@ impl Journal {
         ends.len()
     }
 
-    /// The events of all batches, in order.
+    /// Returns the events of all batches, in order.
     pub fn events(&self) -> &[Event]
         ensures { result.now ≡ joined self.now }
     {
         self.events.as_slice()
     }
 
-    /// How many events stood once each batch was added, in order. The last is how many events there are; an empty batch
-    /// repeats the number before it.
+    /// Returns the number of events once each batch was added, in order. The last is the number of all events; an empty
+    /// batch repeats the number before it.
     pub fn ends(&self) -> &[u64]
         ensures { result.now ≡ ends_of self.now }
     {
         self.ends.as_slice()
     }
 
-    /// Its events and its ends, as `events` and `ends` show them.
+    /// Returns its events and its ends, as `events` and `ends` show them.
     pub fn into_parts(self) -> (Vec<Event>, Vec<u64>)
         ensures events { result.0.items ≡ joined self }
         ensures ends { result.1.items ≡ ends_of self }
@@ -96,7 +96,7 @@ impl Journal {
         (self.events, self.ends)
     }
 
-    /// A copy of it, with memory of its own.
+    /// Returns a copy of it, with memory of its own.
     pub(crate) fn copy(&self) -> Result<Journal, AllocError>
         ensures { IfOk result (λ journal. journal ≡ self.now) }
     {
@@ -107,14 +107,14 @@ impl Journal {
         Ok(Journal { events, ends })
     }
 
-    /// How many events they hold.
+    /// Returns how many events they hold.
     pub(crate) fn event_count(&self) -> u64
         ensures { result ≡ event_count self.now }
     {
         self.events.len() as u64
     }
 
-    /// Adds a batch behind the others.
+    /// Adds a batch after the others.
     pub(crate) fn push(&mut self, batch: &[Event]) -> Result<(), AllocError>
         ensures added { OnOk result (self.new ≡ self.old ++ batch.now ∷ []) }
         ensures refused { OnErr result (self.new ≡ self.old) }
@@ -126,7 +126,7 @@ impl Journal {
         Ok(())
     }
 
-    /// The events of one batch.
+    /// Returns the events of one batch.
     pub(crate) fn batch(&self, index: usize) -> &[Event]
         requires { index < length self.now }
         ensures { take (index + 1) self.now ≡ take index self.now ++ result.now ∷ [] }
@@ -136,7 +136,7 @@ impl Journal {
         part_of(events, end_of(ends, index), own_end(ends, index))
     }
 
-    /// Keeps the first batches, so many of them, or all if there are fewer.
+    /// Keeps the given number of first batches, or all if there are fewer.
     pub(crate) fn truncate(&mut self, batches: usize)
         ensures { self.new ≡ take batches self.old }
     {
@@ -148,7 +148,7 @@ impl Journal {
         self.ends.truncate(batches);
     }
 
-    /// Takes all batches away.
+    /// Removes all batches.
     pub(crate) fn clear(&mut self)
         ensures { self.new ≡ [] }
     {

@@ -1,11 +1,11 @@
-//! What is known of a unit's history.
+//! What is known about a unit's history.
 
 use pmp_core::{Event, RegFile};
 use std::collections::LinkedList;
 use std::marker::Model;
 
-/// Whose history it is: a contract sees the book that keeps it, and the register file that the unit began with. No
-/// value of it is made.
+/// Whose history it is: a contract sees the book that keeps it, and the initial register file of the unit. No value of
+/// it is ever made.
 pub struct Unit {
     number: u64,
     log: u64,
@@ -22,11 +22,11 @@ impl Model for Unit {
         unit_with (record { number = unit.number; log_name = unit.log; cells_name = unit.cells }) unit.base };
 }
 
-/// A beginning of one history. No value of it is made.
+/// A prefix of one history. No value of it is ever made.
 pub struct Known {
     pub unit: Unit,
     pub list: LinkedList<LinkedList<Event>>,
 }
 
-/// What a reader or the writer knows: nothing yet, or a beginning of its unit's history. No value of it is made.
+/// What a reader or the writer knows: nothing yet, or a prefix of its unit's history. No value of it is ever made.
 pub type Knowledge = Option<Known>;

@@ -4,7 +4,7 @@ ghost use Rattle.pmp_share.specs.Laws.{SameEventsLaw, CutLaw, FurtherEventsLaw, 
 
 use pmp_core::laws::law_frozen;
 
-/// Batches that begin with others, and hold as many events, hold the same events: only empty batches were added.
+/// If batches begin with others, and hold as many events, they hold the same events: only empty batches were added.
 #[tactic(auto, using(crate::proofs::LookFacts::same_events_law))]
 pub fn law_same_events()
     ensures { SameEventsLaw }
@@ -15,14 +15,14 @@ pub fn law_journal_cut()
     ensures { CutLaw }
 {}
 
-/// Where batches begin with others, their register file is that of the others after the further events.
+/// If batches begin with others, their register file is that of the others after the further events.
 #[tactic(auto, using(crate::proofs::LaterLooks::further_events_law))]
 pub fn law_further_events()
     ensures { FurtherEventsLaw }
 {}
 
-/// An entry that is frozen in the file of one look keeps its configuration and its bytes in each later look of the same
-/// checker, if the further events hold no reset. Each look begins with the one before, as `look` of its calls says.
+/// An entry frozen in the file of one look keeps its configuration and its bytes in each later look of the same
+/// checker, if the further events hold no reset. Each look begins with the one before: see `look` of its calls.
 pub fn law_later_look()
     ensures { LaterLookLaw }
 {

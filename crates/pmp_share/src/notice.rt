@@ -1,4 +1,4 @@
-//! Notices: what a publisher tells checkers.
+//! Notices: how a publisher informs checkers.
 
 ghost use Rattle.std.specs.Prelude.{◌≡◌};
 ghost use Rattle.pmp_share.specs.Batches.{event_count};
@@ -9,8 +9,8 @@ use crate::reader_state::ReaderState;
 use pmp_core::RegFile;
 use std::marker::Model;
 
-/// What was published when it was told. A contract sees the batches, and of which unit they are. It can go to any
-/// thread.
+/// What was published when the notice was made. A contract sees the batches, and which unit they belong to. It can be
+/// sent to any thread.
 #[derive(Drop)]
 pub struct Notice {
     state: ReaderState,
@@ -25,28 +25,28 @@ impl Model for Notice {
 }
 
 impl Notice {
-    /// The notice of what is known there.
+    /// Returns the notice of what this state knows.
     pub(crate) fn new(state: ReaderState) -> Notice
         ensures { result ≡ state }
     {
         Notice { state }
     }
 
-    /// The reader state that tells of it, with its place.
+    /// Returns the reader state of the notice, with its place.
     pub(crate) fn into_state(self) -> ReaderState
         ensures { result ≡ self }
     {
         self.state
     }
 
-    /// How many events it tells of.
+    /// Returns how many events it reports.
     pub fn len(&self) -> u64
         ensures { result ≡ event_count self.now.list }
     {
         self.state.digest().events()
     }
 
-    /// The register file that these events give.
+    /// Returns the register file that these events give.
     pub fn file(&self) -> RegFile
         ensures { result ≡ file_of self.now }
     {

@@ -1,4 +1,4 @@
-//! Rings of notices, by which they reach a checker whose thread runs on.
+//! Rings that carry notices to a checker on a running thread.
 
 ghost use Rattle.std.specs.Prelude.{◌≡◌, ◌+◌, ◌<◌, ◌≤◌, [], ◌∷◌, ◌++◌, length, IfOk, IfErr, IfSome, IsOk, OnOk, IsSome, None};
 ghost use mathlib.Core.List.{IsPrefix};
@@ -13,7 +13,7 @@ use std::alloc::Global;
 use std::marker::Model;
 use std::snapshot::Snapshot;
 
-/// Each notice is of the unit that the first is of.
+/// Each notice is of the same unit as the first.
 #[derive(Clone, Copy)]
 pub struct OneUnit;
 
@@ -23,7 +23,7 @@ impl Protocol<Notice> for OneUnit {
     ghost allows = { FollowsFirst };
 }
 
-/// The end of a ring that sends notices. It waits for nobody, and can go to any thread.
+/// The sending end of a ring of notices. It never waits, and can be sent to any thread.
 #[derive(Drop)]
 pub struct NoticeSender {
     producer: Producer<Notice, Global, OneUnit>,
@@ -46,7 +46,7 @@ impl Model for NoticeSender {
     ghost invariant = { λ sender. Began (sent sender.producer) sender.first.value.unit };
 }
 
-/// The end of a ring that receives notices. It waits for nobody, and can go to any thread.
+/// The receiving end of a ring of notices. It never waits, and can be sent to any thread.
 #[derive(Drop)]
 pub struct NoticeReceiver {
     consumer: Consumer<Notice, Global, OneUnit>,
@@ -70,8 +70,8 @@ impl Model for NoticeReceiver {
 }
 
 impl Publisher {
-    /// A ring for up to `room` notices of its unit: one end for the publisher's thread, and the other for that of a
-    /// checker. The notices in it have places, as others have. `NoPlace` where all are taken, and `Memory` where
+    /// Creates a ring for up to `room` notices of its unit: one end for the publisher's thread, the other for a
+    /// checker's thread. The notices in it take places, like all others. `NoPlace` if all are taken, and `Memory` if
     /// memory is refused.
     pub fn notice_ring(
         &mut self,
@@ -105,7 +105,7 @@ impl Publisher {
 }
 
 impl NoticeSender {
-    /// Sends a notice of the ring's unit behind those that it sent, or hands it back where the ring is full.
+    /// Sends a notice of the ring's unit after those already sent, or hands it back if the ring is full.
     pub fn send(&mut self, notice: Notice) -> Result<(), Notice>
         requires unit { notice.unit ≡ self.old.unit }
         ensures same { (self.new.ring ≡ self.old.ring) × (self.new.unit ≡ self.old.unit) }
@@ -120,7 +120,7 @@ impl NoticeSender {
         }
     }
 
-    /// Whether the receiver was dropped. What is sent then is lost.
+    /// Whether the receiver was dropped. What is sent after that is lost.
     pub fn is_abandoned(&mut self) -> bool
         ensures { SenderLooked self.old self.new }
     {
@@ -129,7 +129,7 @@ impl NoticeSender {
 }
 
 impl NoticeReceiver {
-    /// The next notice that was sent, if one is there. It is of the ring's unit.
+    /// Returns the next notice that was sent, if there is one. It is of the ring's unit.
     pub fn receive(&mut self) -> Option<Notice>
         ensures same { (self.new.ring ≡ self.old.ring) × (self.new.unit ≡ self.old.unit) }
         ensures received { IfSome result (λ notice. (notice.unit ≡ self.old.unit)
@@ -141,7 +141,7 @@ impl NoticeReceiver {
         self.consumer.pop().ok()
     }
 
-    /// How many notices are there. Each of them is received.
+    /// Returns how many notices are waiting. Each of them will be received.
     pub fn waiting(&mut self) -> usize
         ensures looked { ReceiverLooked self.old self.new }
         ensures value { result ≡ length self.new.waiting }
@@ -149,8 +149,8 @@ impl NoticeReceiver {
         self.consumer.slots()
     }
 
-    /// The same on a thread that has both ends, as after a join: what was received and what waits is what was sent, each
-    /// notice once and in order.
+    /// Returns the same on a thread that has both ends, as after a join: what was received and what waits is what was
+    /// sent, each notice once and in order.
     pub fn waiting_beside(&mut self, sender: &mut NoticeSender) -> usize
         requires pair { sender.old.ring ≡ self.old.ring }
         ensures looked { ReceiverLooked self.old self.new × SenderLooked sender.old sender.new }
@@ -160,7 +160,7 @@ impl NoticeReceiver {
         self.consumer.slots_beside(&mut sender.producer)
     }
 
-    /// Whether the sender was dropped. What it had sent is received still.
+    /// Whether the sender was dropped. What it had sent can still be received.
     pub fn is_abandoned(&mut self) -> bool
         ensures { ReceiverLooked self.old self.new }
     {

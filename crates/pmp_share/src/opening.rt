@@ -18,10 +18,10 @@ use pmp_core::{Hart, RegFile, SavedRegisters, Size};
 use std::alloc::Global;
 use std::sync::Wait;
 
-/// The most checkers of one unit.
+/// The greatest number of checkers of one unit.
 pub const CHECKERS: u8 = 8;
 
-/// So many checkers of the publisher's unit.
+/// Returns the given number of checkers of the publisher's unit.
 fn seat_checkers(
     alloc: Global,
     publisher: &mut Publisher,
@@ -39,7 +39,7 @@ fn seat_checkers(
     Ok(checkers)
 }
 
-/// One publisher and `k` checkers of one unit that begins with this register file.
+/// Returns one publisher and `k` checkers of one unit that begins with this register file.
 fn start_with<R: Wait>(
     rt: &R,
     alloc: Global,
@@ -59,9 +59,9 @@ fn start_with<R: Wait>(
     }
 }
 
-/// One publisher and `k` checkers of one unit, with nothing published, which begins with the register file that these
-/// numbers stand for: a snapshot's, or the last one of a unit whose history is full. The numbers are taken as
-/// `RegFile::restore` takes them. The unit keeps its size, and a reset goes to the file of reset.
+/// Returns one publisher and `k` checkers of one unit, with nothing published, which begins with the register file that
+/// these numbers stand for: a snapshot's, or the last one of a unit whose history is full. The numbers are treated as
+/// in `RegFile::restore`. The unit keeps its size, and a reset leads to the register file of reset.
 pub fn start_from<R: Wait>(
     rt: &R,
     alloc: Global,
@@ -75,7 +75,7 @@ pub fn start_from<R: Wait>(
     start_with(rt, alloc, &RegFile::restore(saved), k)
 }
 
-/// As `start_from`, of a unit of this hart, which begins with the register file of reset.
+/// Does the same as `start_from` for a unit of this hart, which begins with the register file of reset.
 pub fn start_on<R: Wait>(
     rt: &R,
     alloc: Global,
@@ -89,7 +89,7 @@ pub fn start_on<R: Wait>(
     start_with(rt, alloc, &RegFile::reset_on(hart), k)
 }
 
-/// As `start_on`, of a unit of this size, with the widest addresses and Smepmp.
+/// Does the same as `start_on` for a unit of this size, with the widest addresses and Smepmp.
 pub fn start_of<R: Wait>(
     rt: &R,
     alloc: Global,
@@ -103,7 +103,7 @@ pub fn start_of<R: Wait>(
     start_on(rt, alloc, Hart::of(size), k)
 }
 
-/// As `start_of`, of a unit of sixteen entries.
+/// Does the same as `start_of` for a unit of sixteen entries.
 pub fn start<R: Wait>(rt: &R, alloc: Global, k: u8) -> Result<(Publisher, Vec<Checker>), ShareFault>
     requires { (1 ≤ k) × (k ≤ CHECKERS) }
     ensures started { IfOk result (λ unit. Started (reset_file (profile_of Sixteen)) k unit.0 unit.1.items) }

@@ -21,8 +21,8 @@ use std::alloc::Global;
 use std::marker::Model;
 use std::sync::Wait;
 
-/// Adds batches to the history of its unit: `submit` puts them into the pending list, and `publish` publishes all of
-/// that in one step. It isn't dropped but ended.
+/// Adds batches to the history of its unit: `submit` adds them to the pending list, and `publish` publishes that list
+/// in one step. It isn't dropped but ended.
 pub struct Publisher {
     state: WriterState,
     pending: Journal,
@@ -49,7 +49,7 @@ impl Model for Publisher {
 }
 
 impl Publisher {
-    /// A publisher of a new unit, which begins with this register file.
+    /// Creates the publisher of a new unit, which begins with this register file.
     pub(crate) fn open<R: Wait>(
         rt: &R,
         alloc: Global,
@@ -68,7 +68,7 @@ impl Publisher {
         })
     }
 
-    /// A checker of its unit, which holds what is published.
+    /// Returns a checker of its unit, which holds what is published.
     pub(crate) fn checker(&mut self) -> Result<Checker, ShareFault>
         ensures same { self.new ≡ self.old }
         ensures made { IfOk result (λ checker. checker ≡ known self.old.unit self.old.published) }
@@ -92,15 +92,15 @@ impl Publisher {
         Ok(())
     }
 
-    /// Takes out of the pending list what was submitted since the last `publish`. What a refused `publish` left stays.
+    /// Removes from the pending list what was submitted since the last `publish`. What a refused `publish` left stays.
     pub fn withdraw(&mut self)
         ensures { self.new ≡ record self.old { pending = take self.old.tried self.old.pending } }
     {
         self.pending.truncate(self.tried);
     }
 
-    /// Publishes all pending batches in one step, and answers how many events are published now. It may wait for
-    /// checkers. Where it is refused it may be called again.
+    /// Publishes all pending batches in one step, and returns how many events are published now. It may wait for
+    /// checkers. If it is refused it may be called again.
     pub fn publish<R: Wait>(&mut self, rt: &R) -> Result<u64, ShareFault>
         ensures unit { self.new.unit ≡ self.old.unit }
         ensures appends { OnOk result (Publishes self.old.published self.old.pending self.new.published) }
@@ -120,8 +120,8 @@ impl Publisher {
         Ok(self.state.shown().event_count())
     }
 
-    /// Ends the publisher, and answers what it published. What is pending goes with it, and no checker ever sees that.
-    /// The checkers go on deciding.
+    /// Ends the publisher, and returns what it published. What is pending is lost, and no checker ever sees it. The
+    /// checkers continue to decide.
     pub fn end<R: Wait>(self, rt: &R) -> Journal
         ensures { result ≡ self.published }
     {
@@ -134,8 +134,8 @@ impl Publisher {
         state.end(rt)
     }
 
-    /// A notice of all that is published. `NoPlace` where checkers and notices have all `PLACES`; one is free again
-    /// once a notice or a checker is dropped, or a notice learnt.
+    /// Returns a notice of all that is published. `NoPlace` if checkers and notices have taken all `PLACES`; one is
+    /// free again once a notice or a checker is dropped, or a notice learnt.
     pub fn tell(&mut self) -> Result<Notice, ShareFault>
         ensures same { self.new ≡ self.old }
         ensures told { IfOk result (λ notice. notice ≡ known self.old.unit self.old.published) }
@@ -144,8 +144,8 @@ impl Publisher {
         Ok(Notice::new(self.state.reader_state()?))
     }
 
-    /// What the register reads after what is published and what is pending, as firmware reads back what it wrote, be
-    /// that published yet or not.
+    /// Returns what the register reads after what is published and what is pending, as firmware reads back what it
+    /// wrote, published or not.
     pub fn read(&self, csr: Csr) -> u64
         ensures { result
             ≡ register_value (file_from self.now.unit.base (self.now.published ++ self.now.pending)) csr }
@@ -155,14 +155,14 @@ impl Publisher {
         file.read(csr)
     }
 
-    /// How many events are published.
+    /// Returns how many events are published.
     pub fn journal_len(&self) -> u64
         ensures { result ≡ event_count self.now.published }
     {
         self.state.shown().event_count()
     }
 
-    /// How many events are pending.
+    /// Returns how many events are pending.
     pub fn pending_len(&self) -> u64
         ensures { result ≡ event_count self.now.pending }
     {

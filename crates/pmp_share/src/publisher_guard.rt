@@ -7,9 +7,9 @@ use crate::publisher::Publisher;
 use std::marker::Model;
 use std::sync::Wait;
 
-/// A publisher that is ended where the guard is dropped, which may wait for checkers. A closure may hold it, and so take
+/// A publisher that is ended when the guard is dropped, which may wait for checkers. A closure may hold it, and so take
 /// it to a thread: what a closure holds may be dropped. A contract sees the publisher. The end publishes nothing: what
-/// is pending goes with it.
+/// is pending is lost.
 pub struct PublisherGuard<R: Wait + Drop> {
     ending: Ending<R>,
     publisher: Publisher,
@@ -24,7 +24,7 @@ impl<R: Wait + Drop> Model for PublisherGuard<R> {
 }
 
 impl<R: Wait + Drop> PublisherGuard<R> {
-    /// Takes the publisher in.
+    /// Takes ownership of the publisher.
     pub fn new(rt: R, publisher: Publisher) -> PublisherGuard<R>
         ensures { result ≡ publisher }
     {
@@ -34,7 +34,7 @@ impl<R: Wait + Drop> PublisherGuard<R> {
         }
     }
 
-    /// Gives the publisher back, which isn't ended then.
+    /// Returns the publisher without ending it.
     pub fn into_publisher(self) -> Publisher
         ensures { result ≡ self }
     {
@@ -46,7 +46,7 @@ impl<R: Wait + Drop> PublisherGuard<R> {
     }
 }
 
-/// It has no handle by which it could publish.
+/// It has no handle with which it could publish.
 impl<R: Wait + Drop> Drop for PublisherGuard<R> {
     fn drop(self) {
         let PublisherGuard { ending, publisher } = self;

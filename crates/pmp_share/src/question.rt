@@ -1,4 +1,4 @@
-//! What a checker is asked.
+//! The questions that a checker is asked.
 
 ghost use Rattle.std.specs.Prelude.{◌≡◌, ◌+◌, ◌<◌, ◌≤◌, length, IfOk, IfErr};
 ghost use Rattle.std.specs.List.{AllZip};
@@ -16,7 +16,7 @@ use crate::journal::Journal;
 use arrayvec::ArrayVec;
 use pmp_core::{Access, Csr, Decision, Mode, Perms};
 
-/// The most accesses of a group.
+/// The greatest number of accesses in a group.
 pub const GROUP_ACCESSES: usize = 16;
 
 pub trait Question {
@@ -98,7 +98,7 @@ impl Question for Csr {
     }
 }
 
-/// Nothing beyond how many events there are.
+/// Nothing besides the number of events.
 #[derive(Clone, Copy)]
 pub struct Count;
 

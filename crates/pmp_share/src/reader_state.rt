@@ -1,4 +1,4 @@
-//! What a checker or a notice is of: a reader of the two copies, and what it knows.
+//! The state of a checker or a notice: a reader of the two copies, and what it knows.
 
 ghost use Rattle.std.specs.Prelude.{◌≡◌, MatchBool};
 ghost use Rattle.pmp_share.specs.Batches.{StartsWith, event_count};
@@ -16,8 +16,8 @@ use std::marker::Model;
 
 pub type UnitReader = Reader<Version, Knowledge, OneHistory>;
 
-/// A reader of the two copies, and the digest of the batches that it knows: that answers where no entrance is given. A
-/// contract sees the batches, and of which unit they are.
+/// A reader of the two copies, and the digest of the batches that it knows, which answers if no entrance is given. A
+/// contract sees the batches, and which unit they belong to.
 #[derive(Drop)]
 pub struct ReaderState {
     reader: UnitReader,
@@ -35,7 +35,7 @@ impl Model for ReaderState {
     ghost invariant = { λ state. state.reader.place.me.0.client ≡ Some state.digest.value };
 }
 
-/// Asks, and counts the events as well.
+/// Returns the answer to the question, and the number of events.
 #[inline]
 fn answer_of<Q: Question, D: Decider>(question: &Q, decider: &D) -> (Q::Answer, u64)
     requires { Q.is_sound question.now }
@@ -49,7 +49,7 @@ impl ReaderState {
     ghost use Rattle.std.specs.Prelude.{Some};
     ghost use Rattle.left_right.specs.Sides.{view};
 
-    /// The state of a reader that knows just what the digest is of.
+    /// Returns the state of a reader that knows exactly what the digest is of.
     pub fn new(reader: UnitReader, digest: Box<Digest>) -> ReaderState
         requires seat { view reader.place ≡ Some digest.value }
         ensures { result ≡ digest.value }
@@ -57,15 +57,15 @@ impl ReaderState {
         ReaderState { reader, digest }
     }
 
-    /// The digest of the batches.
+    /// Returns the digest of the batches.
     pub fn digest(&self) -> &Digest
         ensures { result.now ≡ self.now }
     {
         &self.digest
     }
 
-    /// Whether the other's batches hold more events, or as many in no fewer batches. Then these are a prefix of them,
-    /// and otherwise they are one of these.
+    /// Whether the other's batches hold more events, or as many in no fewer batches. If so, these batches are a prefix
+    /// of the other's; otherwise the other's are a prefix of these.
     pub fn is_before(&self, other: &ReaderState) -> bool
         requires unit { other.now.unit ≡ self.now.unit }
         ensures late { result ≡ is_as_late self.now.list other.now.list }
@@ -75,9 +75,9 @@ impl ReaderState {
         self.digest.is_before(&other.digest)
     }
 
-    /// Looks: the published version answers, or where no entrance is given the digest. Returns how many events the
-    /// answer is in, too. No clause says that it sees a publication which has returned: a body that answers by the
-    /// digest alone is caught by `pmp_stress`, which asks each question behind publications, on running threads.
+    /// Looks: the published version answers, or the digest if no entrance is given. Also returns how many events the
+    /// answer is in. No clause says that it sees a publication that has returned: a body that answers by the digest
+    /// alone is caught by `pmp_stress`, which asks each question after publications, on running threads.
     #[inline]
     pub fn look<Q: Question>(&mut self, question: &Q) -> (Q::Answer, u64)
         requires { Q.is_sound question.now }
@@ -87,7 +87,7 @@ impl ReaderState {
         replace_with(self, question, |state, question| state.asked(question))
     }
 
-    /// The state after the look, and its answer.
+    /// Returns the state after the look, and its answer.
     #[inline]
     fn asked<Q: Question>(self, question: &Q) -> (ReaderState, (Q::Answer, u64))
         requires { Q.is_sound question.now }

@@ -1,4 +1,4 @@
-//! Who adds to the history of a unit.
+//! The recorder: it alone may add to the history of a unit.
 
 ghost use Rattle.std.specs.Prelude.{◌≡◌, [], ◌∷◌, ◌++◌, MatchBool};
 
@@ -29,7 +29,7 @@ impl Model for Recorder {
 }
 
 impl Recorder {
-    /// The recorder of a new history, of no batches.
+    /// Returns the recorder of a new history, without batches.
     pub fn open() -> Recorder
         ensures { result.list ≡ [] }
     {
@@ -41,14 +41,14 @@ impl Recorder {
         }
     }
 
-    /// What is in the history.
+    /// Returns what is in the history.
     pub fn history(&self) -> History
         ensures { (result.book ≡ self.now.book) × (result.log ≡ self.now.list) }
     {
         self.history.again()
     }
 
-    /// Adds a batch, and says whether it did. Nobody else adds, so it always does, which no type tells.
+    /// Adds a batch, and returns whether it did. Nobody else adds, so it always does, which no type shows.
     pub fn add(&mut self, batch: &Vec<Event>) -> bool
         ensures book { self.new.book ≡ self.old.book }
         ensures added { MatchBool result (self.new.list ≡ self.old.list ++ batch.now.items ∷ [])

@@ -5,7 +5,7 @@ use crate::version::Version;
 use atomic_table::{Join, Split};
 use crossbeam_utils::rule::{Outcome, Protocol};
 
-/// Whatever is known is a beginning of the published batches.
+/// What is known is always a prefix of the published batches.
 pub struct OneHistory;
 
 impl Protocol<Version, Knowledge> for OneHistory {

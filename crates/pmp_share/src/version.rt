@@ -23,7 +23,7 @@ pub struct Version {
     file: RegFile,
     map: RunMap,
     history: History,
-    /// What the unit began with, for contracts alone.
+    /// What the unit began with, for contracts only.
     base: Snapshot<RegFile>,
     ghost replayed: { file ≡ file_from base.value journal },
     ghost mapped: { map ≡ file },
@@ -57,7 +57,7 @@ impl Absorb<LoggedBatch> for Version {
 }
 
 impl Version {
-    /// The version without batches, of a unit that begins with this register file.
+    /// Returns the version without batches, of a unit that begins with this register file.
     pub fn new(alloc: Global, base: &RegFile, history: History) -> Version
         ensures journal { result.journal ≡ [] }
         ensures base { result.base.value ≡ base.now }
@@ -72,28 +72,28 @@ impl Version {
         }
     }
 
-    /// How many batches it has.
+    /// Returns how many batches it has.
     pub fn batches(&self) -> usize
         ensures { result ≡ length self.now.journal }
     {
         self.journal.batches()
     }
 
-    /// Its batches.
+    /// Returns its batches.
     pub fn journal(&self) -> &Journal
         ensures { result.now ≡ self.now.journal }
     {
         &self.journal
     }
 
-    /// Its batches, without the rest.
+    /// Returns its batches, without the rest.
     pub fn into_journal(self) -> Journal
         ensures { result ≡ self.journal }
     {
         self.journal
     }
 
-    /// What its events give.
+    /// Returns the register file that its events give.
     pub fn file(&self) -> &RegFile
         ensures same { result.now ≡ self.now.file }
         ensures replayed { result.now ≡ file_from self.now.base.value self.now.journal }
@@ -101,7 +101,7 @@ impl Version {
         &self.file
     }
 
-    /// The history up to it.
+    /// Returns the history up to it.
     pub fn history(&self) -> History
         ensures { result ≡ self.now.history }
     {

@@ -21,20 +21,20 @@ use std::marker::Model;
 use std::snapshot::Snapshot;
 use std::sync::Wait;
 
-/// How many checkers and notices of one unit there may be at once.
+/// The greatest number of checkers and notices of one unit at the same time.
 pub const PLACES: usize = 32;
 
 type UnitWriter = Writer<Version, LoggedBatch, Knowledge, OneHistory>;
 
-/// The published version and the one that comes next. A contract sees the batches that are shown, those that the
-/// next publication shows, and the history.
+/// The published version and the next one. A contract sees the batches that are shown, those that the next publication
+/// shows, and the history.
 pub struct WriterState {
     alloc: Global,
-    /// What the unit began with, for contracts alone.
+    /// What the unit began with, for contracts only.
     base: Snapshot<RegFile>,
     writer: UnitWriter,
     recorder: Recorder,
-    /// The history has one batch that isn't handed over.
+    /// Whether the history has one batch that isn't handed over.
     ahead: bool,
 }
 
@@ -61,7 +61,7 @@ impl Model for WriterState {
 }
 
 impl WriterState {
-    /// Two versions without batches, of a unit that begins with this register file.
+    /// Creates two versions without batches, of a unit that begins with this register file.
     pub fn open<R: Wait>(rt: &R, alloc: Global, base: &RegFile) -> Result<WriterState, ShareFault>
         ensures made { IfOk result (λ state. (state.shown ≡ []) × (state.handed ≡ []) × (state.ahead ≡ false)) }
         ensures base { IfOk result (λ state. state.unit.base ≡ base.now) }
@@ -87,14 +87,14 @@ impl WriterState {
         }
     }
 
-    /// What is published.
+    /// Returns what is published.
     pub fn shown(&self) -> &Journal
         ensures { result.now ≡ self.now.shown }
     {
         self.writer.published().journal()
     }
 
-    /// The register file that it gives.
+    /// Returns the register file that it gives.
     pub fn file(&self) -> &RegFile
         ensures { result.now ≡ file_from self.now.unit.base self.now.shown }
     {
@@ -119,7 +119,7 @@ impl WriterState {
         Ok(())
     }
 
-    /// Hands over one batch more, for the next publication.
+    /// Hands over one more batch, for the next publication.
     pub fn hand(&mut self, batch: &[Event]) -> Result<(), ShareFault>
         requires ahead { self.old.ahead ≡ true → self.old.noted ≡ self.old.handed ++ batch.now ∷ [] }
         ensures unit { self.new.unit ≡ self.old.unit }
@@ -143,7 +143,7 @@ impl WriterState {
         }
     }
 
-    /// Shows all that was handed over. It waits for checkers that still read the version before.
+    /// Shows all that was handed over. It waits for checkers that still read the previous version.
     pub fn show<R: Wait>(&mut self, rt: &R) -> Result<(), ShareFault>
         ensures unit { self.new.unit ≡ self.old.unit }
         ensures history { (self.new.noted ≡ self.old.noted) × (self.new.ahead ≡ self.old.ahead) }
@@ -156,7 +156,7 @@ impl WriterState {
         Ok(())
     }
 
-    /// The state after the publication, and its answer.
+    /// Returns the state after the publication, and its result.
     fn turn<R: Wait>(self, rt: &R) -> (WriterState, Result<(), AllocError>)
         ensures unit { result.0.unit ≡ self.unit }
         ensures history { (result.0.noted ≡ self.noted) × (result.0.ahead ≡ self.ahead) }
@@ -182,7 +182,7 @@ impl WriterState {
         (state, shown)
     }
 
-    /// The reader state of a checker or a notice that knows just what is published.
+    /// Returns the reader state of a checker or a notice that knows exactly what is published.
     pub fn reader_state(&mut self) -> Result<ReaderState, ShareFault>
         ensures same { self.new ≡ self.old }
         ensures made { IfOk result (λ state. state ≡ record { unit = self.old.unit; list = self.old.shown }) }
@@ -196,7 +196,7 @@ impl WriterState {
         Ok(ReaderState::new(reader, digest))
     }
 
-    /// Ends both, and answers what is published. It waits for checkers that read a version.
+    /// Ends both, and returns what is published. It waits for checkers that are reading a version.
     pub fn end<R: Wait>(self, rt: &R) -> Journal
         ensures { result ≡ self.shown }
     {

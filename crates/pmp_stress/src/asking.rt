@@ -1,4 +1,4 @@
-//! What a checker is asked on its thread.
+//! The questions that a checker is asked on its thread.
 
 use crate::failure::Failure;
 use crate::meeting::Meeting;
@@ -7,7 +7,7 @@ use pmp_core::{Access, Decision, Perms};
 use pmp_share::{Checker, GROUP_ACCESSES};
 use std::sync::Wait;
 
-/// How often a checker is asked freely each time that it is on a thread, at least and at most.
+/// The smallest and greatest number of free questions to a checker each time that it is on a thread.
 const LEAST: u32 = 2_500;
 
 const MOST: u32 = 10_000;
@@ -33,16 +33,16 @@ impl Question {
 
 #[derive(Clone, Copy, PartialEq, Eq)]
 pub enum Said {
-    /// Of a group, which is one access throughout, the decision of all. None where they differ.
+    /// The decision on all of a group, which is one access throughout. None if they differ.
     Decision(Option<Decision>),
-    /// What the access's mode may do in its bytes.
+    /// What the mode of the access may do in its bytes.
     Rights(Option<Perms>),
     Register(u64),
-    /// No more than the count.
+    /// Nothing besides the count.
     Count,
 }
 
-/// What a checker said, and in how many events. At least so many were published before it was asked.
+/// The answer of a checker, and its number of events. At least `least` were published before the question.
 #[derive(Clone, Copy)]
 pub struct Answer {
     pub question: Question,
@@ -52,7 +52,7 @@ pub struct Answer {
     pub least: u64,
 }
 
-/// A checker on its thread, and what it has answered there.
+/// A checker on its thread, and its answers there.
 #[derive(Drop)]
 pub struct Asked {
     pub checker: Checker,
@@ -60,7 +60,7 @@ pub struct Asked {
     pub source: Source,
 }
 
-/// The decision of all, if they don't differ.
+/// Returns the decision on all, if they don't differ.
 fn common(decisions: &[Decision]) -> Option<Decision> {
     let first = *decisions.first()?;
     (decisions == [first; GROUP_ACCESSES].as_slice()).then_some(first)
@@ -100,7 +100,7 @@ impl Asked {
         Ok(())
     }
 
-    /// Mostly decisions, until the meeting is over.
+    /// Asks mostly for decisions, until the meeting is over.
     pub fn ask_freely(&mut self, meeting: &Meeting) -> Result<(), Failure> {
         for asked in 0..MOST {
             let is_over = meeting.is_over();
@@ -113,8 +113,8 @@ impl Asked {
         Ok(())
     }
 
-    /// Each question once, where nobody asks while the publication before it is made: a checker that doesn't look
-    /// answers without that one. On every outcome it waits as often as the publisher does.
+    /// Asks each question once, with no question while the publication before it is made: a checker that doesn't look
+    /// answers without that one. In every case it waits as often as the publisher does.
     pub fn ask_in_step<R: Wait>(&mut self, rt: &R, meeting: &Meeting) -> Result<(), Failure> {
         let mut outcome = Ok(());
         for question in Question::ALL {

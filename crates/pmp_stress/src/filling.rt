@@ -1,4 +1,4 @@
-//! What a unit that is full of history costs.
+//! The cost of a unit that is full of history.
 
 use crate::failure::Failure;
 use crate::soak::print_counts;
@@ -10,10 +10,10 @@ use std::io::Print;
 use std::sync::Wait;
 use std::time::Clock;
 
-/// How many further batches are timed.
+/// The number of further batches that are timed.
 const FURTHER: u32 = 1_000;
 
-/// So many equal writes, at most 64.
+/// Returns the given number of equal writes, at most 64.
 fn writes(events: u32) -> Result<Batch, Failure> {
     let mut batch = Batch::new();
     for _ in 0..events {
@@ -22,7 +22,7 @@ fn writes(events: u32) -> Result<Batch, Failure> {
     Ok(batch)
 }
 
-/// Publishes the batch so often, each time by itself or all together, or until there is no room. Answers how often.
+/// Publishes the batch `times` times, one by one or together, or until there is no room. Returns how many times it did.
 pub fn publish_many<R: Wait>(
     rt: &R,
     publisher: &mut Publisher,
@@ -45,8 +45,8 @@ pub fn publish_many<R: Wait>(
     Ok(submitted)
 }
 
-/// Publishes so many batches of so many events in a unit, and then further ones of one event, one by one, until there
-/// is no room.
+/// Publishes the given number of batches of the given number of events in a unit, and then further ones of one event,
+/// one by one, until there is no room.
 pub fn fill<R: Clock + Wait + Print>(
     rt: &R,
     alloc: Global,

@@ -1,4 +1,4 @@
-//! The calls of a shared unit, a case each, to which `checks/growths` refuses their requests for memory one by one.
+//! The calls of a shared unit, as cases in which `checks/growths` refuses the requests for memory one by one.
 
 mod case;
 mod stop;
@@ -11,7 +11,7 @@ use std::io::{Eprint, Print};
 use std::sync::Wait;
 use stop::{Stop, Tried};
 
-/// Tries the case of this word, or all without one. The status is that of the last one that isn't as it has to be.
+/// Tries the case with this name, or all without one. The status is that of the last one that isn't correct.
 pub fn try_cases<R: Wait + Print + Eprint>(rt: &R, alloc: Global, asked: &str) -> u8 {
     let mut status = 0;
     for &case in &CASES {
@@ -25,13 +25,12 @@ pub fn try_cases<R: Wait + Print + Eprint>(rt: &R, alloc: Global, asked: &str) -
     status
 }
 
-/// Tells that there is no memory for the words of the command line.
+/// Reports that there is no memory for the words of the command line.
 pub fn tell_no_words<R: Print + Eprint>(rt: &R) -> u8 {
     tell(rt, "", Err(Stop::Outside))
 }
 
-/// Writes how a case ended, and returns the status of that: 3 where memory was refused, and 1 where something isn't as
-/// it has to be.
+/// Writes how a case ended, and returns its status: 3 if memory was refused, and 1 if something isn't correct.
 fn tell<R: Print + Eprint>(rt: &R, case: &str, tried: Tried) -> u8 {
     let (written, status) = match tried {
         Ok(()) => (println!(rt; "{case}: answered"), 0),

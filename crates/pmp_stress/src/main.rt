@@ -1,11 +1,11 @@
-//! Puts shared units under load, compares each answer with a replay, refuses them memory, and times them.
+//! Tests shared units under load, compares each answer with a replay, refuses them memory, and times them.
 //!
 //! `pmp_stress soak SECONDS [SEED]` runs a publisher and eight checkers over random batches, and over two entries that
-//! are swapped, for so long, for `make soak`, and compares each answer with a replay of what was published;
+//! are swapped, for that time, for `make soak`, and compares each answer with a replay of what was published;
 //! `pmp_stress growths [CASE]` makes each call that may be refused memory once, for `checks/growths`;
 //! `pmp_stress fill BATCHES EVENTS [together]` publishes one large history, for `make bench-limits`;
 //! `pmp_stress bench` times decisions on threads that share a unit, for `make bench-threads`.
-//! Without a word it soaks as short as it can, and tries each case.
+//! Without a word it soaks as briefly as it can, and tries each case.
 #![tactic(auto)]
 
 mod asking;
@@ -32,7 +32,7 @@ use soak::soak;
 use std::env;
 use std::process::ExitCode;
 
-/// The word, or none.
+/// Returns the word, or an empty one.
 fn text(word: &Option<String>) -> &str {
     match word {
         Some(word) => word.as_str(),
@@ -40,12 +40,12 @@ fn text(word: &Option<String>) -> &str {
     }
 }
 
-/// The word as a number, or the other one.
+/// Returns the word as a number, or `other`.
 fn number(word: &Option<String>, other: u32) -> u32 {
     text(word).parse::<u32>().unwrap_or(other)
 }
 
-/// Tells why there is nothing to compare or to time.
+/// Reports why there is nothing to compare or to time.
 fn fail(rt: &HostRuntime, failure: Failure) -> ExitCode {
     match eprintln!(rt; "Error: {failure:?}") {
         Ok(()) | Err(_) => ExitCode::FAILURE,

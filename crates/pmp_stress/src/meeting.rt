@@ -1,4 +1,4 @@
-//! Where a publisher and the threads of its checkers meet.
+//! The meeting point of a publisher and the threads of its checkers.
 
 use std::sync::atomic::{AtomicU64, Ordering};
 use std::sync::{Barrier, Wait};
@@ -11,7 +11,7 @@ pub struct Meeting {
 }
 
 impl Meeting {
-    /// Of so many threads, where it goes on until so many of them have left. So many events are published before.
+    /// Creates a meeting of `threads` threads, over once `busy` have left, after `shown` events were published.
     pub fn new(threads: usize, busy: usize, shown: u64) -> Meeting {
         Meeting {
             barrier: Barrier::new(threads),
@@ -20,7 +20,7 @@ impl Meeting {
         }
     }
 
-    /// Waits until all are there.
+    /// Waits until all threads are there.
     pub fn wait<R: Wait>(&self, rt: &R) {
         self.barrier.wait(rt);
     }
@@ -33,12 +33,12 @@ impl Meeting {
         self.busy.load(Ordering::SeqCst) == 0
     }
 
-    /// A publication of so many events has returned.
+    /// Notes that a publication has returned, after which this many events are published.
     pub fn show(&self, events: u64) {
         self.shown.store(events, Ordering::SeqCst);
     }
 
-    /// How many events each look has that starts from now on, at least.
+    /// Returns the least number of events in each look that starts from now on.
     pub fn shown(&self) -> u64 {
         self.shown.load(Ordering::SeqCst)
     }

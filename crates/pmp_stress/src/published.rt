@@ -1,4 +1,4 @@
-//! What was published, and whether answers are those of a replay.
+//! The published batches, and whether answers agree with a replay of them.
 
 use crate::asking::{Answer, Question, Said};
 use crate::crew::Done;
@@ -8,7 +8,7 @@ use pmp_map::rights_in;
 use pmp_share::{Batch, Journal};
 use std::alloc::{AllocError, Global};
 
-/// What a unit begins with, the published events, and where each batch and each publication ends.
+/// The initial registers of a unit, the published events, and where each batch and each publication ends.
 #[derive(Drop)]
 pub struct Published {
     base: RegFile,
@@ -31,7 +31,7 @@ impl Published {
         self.publications.len()
     }
 
-    /// These are the batches of one publication more.
+    /// Adds the batches of one more publication.
     pub fn push(&mut self, batches: &[Batch]) -> Result<(), AllocError> {
         for batch in batches {
             self.events.extend_from_slice(batch.events())?;
@@ -41,13 +41,13 @@ impl Published {
         Ok(())
     }
 
-    /// Whether the journal has just these batches.
+    /// Whether the journal has exactly these batches.
     pub fn is_in(&self, journal: &Journal) -> bool {
         journal.events() == self.events.as_slice() && journal.ends() == self.ends.as_slice()
     }
 
-    /// Whether all that a checker answered is right: each answer is that of whole publications, which are no fewer than
-    /// before, or than had been published when it was asked. One that comes back was asked each question behind a
+    /// Whether all that a checker answered is right: each answer is that of whole publications, no fewer than before,
+    /// nor than had been published when it was asked. A checker that comes back was asked each question after a
     /// publication that it hadn't seen.
     pub fn fits(&self, done: &Done, source: &Source) -> bool {
         let (mut file, mut seen) = (self.base, 0);
@@ -75,7 +75,7 @@ impl Published {
     }
 }
 
-/// What the register file says of the same.
+/// Returns the register file's answer to the same question.
 fn said_by(file: &RegFile, source: &Source, answer: &Answer) -> Said {
     let access = &answer.access;
     let (mode, start, length) = (access.mode, access.start, access.length);

@@ -1,4 +1,4 @@
-//! One unit under load: its checkers are asked on threads, and come back, while its publisher publishes.
+//! One unit under load: its checkers are asked on threads, and return, while its publisher publishes.
 
 ghost use Rattle.std.specs.Prelude.{◌≡◌, All};
 
@@ -17,10 +17,10 @@ use std::sync::Wait;
 use std::thread::Threads;
 use std::time::Clock;
 
-/// How often the checkers go to threads and come back.
+/// How often the checkers go to threads and return.
 const STRETCHES: u32 = 5;
 
-/// How often the publisher publishes in each, beside once for each question: 400 times in all, 200 rounds of a swap.
+/// Publications in each stretch, besides one for each question: 400 in all, 200 rounds of a swap.
 const PUBLICATIONS: u32 = 75;
 
 #[derive(Drop)]
@@ -42,7 +42,7 @@ fn tell_all(publisher: &mut Publisher, checkers: &mut [Checker]) -> Result<(), S
 }
 
 impl Round {
-    /// Publishes what comes next, and answers how many events are published then.
+    /// Publishes what comes next, and returns how many events are then published.
     fn publish<R: Clock + Wait>(
         &mut self,
         rt: &R,
@@ -62,7 +62,7 @@ impl Round {
         Ok(events)
     }
 
-    /// Sends the checkers out, of which so many don't come back.
+    /// Sends the checkers out; `leaving` of them don't return.
     fn send_out<R: Clock + Threads + Wait + Copy + Send + 'static>(
         &mut self,
         rt: &R,
@@ -82,7 +82,7 @@ impl Round {
         Ok(crew)
     }
 
-    /// Compares what all of them answered, and answers those that came back.
+    /// Compares the answers of all of them, and returns the checkers that came back.
     fn come_back<R: Threads>(&mut self, rt: &R, crew: Crew) -> Result<Vec<Checker>, Failure> {
         let mut checkers = Vec::new(self.alloc);
         for done in crew.join(rt)? {
@@ -115,7 +115,7 @@ impl Round {
         Ok(())
     }
 
-    /// Each checker copies what is published.
+    /// Compares what each checker copies with what is published.
     fn compare_copies(&self, checkers: &mut [Checker]) -> Result<(), Failure> {
         for seat in 0..checkers.len() {
             if !self.published.is_in(&checkers[seat].copy_journal()?) {
@@ -125,7 +125,7 @@ impl Round {
         Ok(())
     }
 
-    /// Publishes while the checkers are asked, and compares what those copy that come back.
+    /// Publishes while the checkers are asked, and compares what those that return copy.
     fn stretch<R: Clock + Threads + Wait + Copy + Send + 'static>(
         &mut self,
         rt: &R,
@@ -140,7 +140,7 @@ impl Round {
         Ok(checkers)
     }
 
-    /// All stretches, of which in the last but one a checker doesn't come back. Then the others are asked, and a reset is
+    /// Runs all stretches; in the last but one a checker doesn't return. Then the others are asked, and a reset is
     /// pending.
     fn run<R: Clock + Threads + Wait + Copy + Send + 'static>(
         &mut self,
@@ -164,8 +164,8 @@ impl Round {
     }
 }
 
-/// Runs a unit of its own. The publisher ends with the reset pending while the checkers are asked: none sees it, and the
-/// journal doesn't have it.
+/// Runs a unit of its own. The publisher ends with the reset pending while the checkers are asked: none sees it, and
+/// the journal doesn't have it.
 pub fn run_round<R: Clock + Threads + Wait + Copy + Send + 'static>(
     rt: &R,
     alloc: Global,

@@ -1,8 +1,8 @@
-//! How long calls take.
+//! The time that calls take.
 
 use std::time::{Clock, Instant};
 
-/// When something began. None where the clock failed.
+/// The moment when something began. None if the clock failed.
 #[derive(Clone, Copy)]
 pub struct Moment(Option<Instant>);
 
@@ -11,7 +11,7 @@ impl Moment {
         Moment(Instant::now(rt).ok())
     }
 
-    /// How many nanoseconds ago. Where the clock fails, that is the greatest number.
+    /// Returns how many nanoseconds ago that was, or the greatest number if the clock fails.
     pub fn nanoseconds<R: Clock>(self, rt: &R) -> u64 {
         match (self.0, Instant::now(rt)) {
             (Some(from), Ok(to)) => {
@@ -21,7 +21,7 @@ impl Moment {
         }
     }
 
-    /// How many tenths of a nanosecond each of so many calls took since then.
+    /// Returns how many tenths of a nanosecond each of `calls` calls has taken since then.
     pub fn each<R: Clock>(self, rt: &R, calls: u32) -> u64 {
         self.nanoseconds(rt).saturating_mul(10) / u64::from(calls.max(1))
     }

@@ -1,4 +1,4 @@
-//! An audit by several workers, which pass a gate.
+//! An audit by several workers that pass a gate.
 
 use pmp_audit::{AuditFault, Gate, Summary, audit_shared};
 use std::alloc::{AllocError, Global};
@@ -6,22 +6,22 @@ use std::sync::Wait;
 use std::sync::atomic::{AtomicBool, AtomicU64, Ordering};
 use std::thread::Threads;
 
-/// Two publications: entry 0 reads a page, then entry 1 does in its place.
+/// Two publications: entry 0 makes a page readable, then entry 1 does instead.
 const SCRIPT: &[u8] = b"pmp 1\nwrite pmpaddr0 0x200001ff\nwrite pmpcfg0 0x19\npublish\n\
     write pmpcfg0 0x1900\nwrite pmpaddr1 0x200001ff\npublish\n";
 
-/// How long a worker waits for the others: for far longer than it takes them on a busy machine.
+/// How long a worker waits for the others: far longer than they take on a busy machine.
 const TURNS: u32 = 1_000_000_000;
 
 const WORKERS: u64 = 8;
 
-/// The rows before this one ask for no publication, and it and those behind it for two: the workers begin anew with it.
+/// The rows before this one ask for no publication, and all from it on for two: the workers start anew with it.
 const SECOND: u64 = 12;
 
-/// How many rows there are.
+/// The number of rows.
 const ROWS: u64 = 31;
 
-/// Looks at each row that passes, and holds the worker until a row of each worker has passed.
+/// A gate that checks each row that passes, and holds the worker until a row of each worker has passed.
 #[derive(Drop)]
 struct Meeting {
     calls: AtomicU64,
@@ -44,7 +44,7 @@ impl Meeting {
         }
     }
 
-    /// Whether it is the worker's turn, no row before was this one, and the worker's last one is less.
+    /// Whether it is the worker's turn, the row is new, and it is above the worker's last one.
     fn is_next(&self, worker: u8, row: u64) -> bool {
         let first = if row < SECOND { 1 } else { SECOND };
         let bit = 1 << (row % 64);
@@ -91,7 +91,7 @@ fn zeros() -> [AtomicU64; 8] {
     ]
 }
 
-/// So many rows, of which the first ask for no publication, and the others for two.
+/// Returns the given number of rows, the first of which ask for no publication, and the others for two.
 fn trace_of(alloc: Global, first: u64, rows: u64) -> Result<Vec<u8>, AllocError> {
     let mut trace = Vec::new(alloc);
     trace.extend_from_slice(b"after,mode,kind,start,length\n".as_slice())?;
@@ -106,7 +106,7 @@ fn trace_of(alloc: Global, first: u64, rows: u64) -> Result<Vec<u8>, AllocError>
     Ok(trace)
 }
 
-/// Eight workers audit the rows, of which so many ask for no publication.
+/// Audits the rows by eight workers; the `first` rows ask for no publication.
 fn audit_by_workers<R: Threads + Wait + Sync, G: Gate + Sync>(
     rt: &R,
     alloc: Global,
@@ -118,7 +118,7 @@ fn audit_by_workers<R: Threads + Wait + Sync, G: Gate + Sync>(
     audit_shared(rt, alloc, gate, 8, SCRIPT, trace.as_slice(), &mut report)
 }
 
-/// All rows were decided, and so many of them refused.
+/// Returns the summary of all rows decided, with the given number of them refused.
 fn with_faults(faults: u64) -> Result<Summary, AuditFault> {
     Ok(Summary {
         rows: ROWS,
@@ -128,8 +128,8 @@ fn with_faults(faults: u64) -> Result<Summary, AuditFault> {
 }
 
 /// Each row passes the gate once, by the worker whose turn it is, before that worker's next row, in both rounds. A body
-/// that runs its workers one after another, or fewer of them, is refused here: the first waits for the others in vain.
-/// So is one that passes the gate twice with a row, or not at all, or by another worker, or out of order.
+/// that runs its workers one after another, or fewer of them, fails here: the first waits for the others in vain. So
+/// does one that passes the gate twice for a row, or not at all, or by another worker, or out of order.
 #[test]
 fn workers_overlap(rt: HostRuntime) {
     let gate = Meeting::new();
@@ -144,7 +144,7 @@ fn workers_overlap(rt: HostRuntime) {
     assert!(rt; gate.rows.load(Ordering::SeqCst) == 0xffff_fffe);
 }
 
-/// Looks at each row that passes, and holds no worker.
+/// A gate that checks each row that passes, and holds no worker.
 #[derive(Drop)]
 struct Turns {
     calls: AtomicU64,
@@ -167,8 +167,7 @@ impl Gate for Turns {
     }
 }
 
-/// Where the gate doesn't wait, workers with few rows take turns: each decides all of its rows before the next one
-/// begins.
+/// If the gate doesn't wait, workers with few rows take turns: each decides all of its rows before the next one begins.
 #[test]
 fn workers_take_turns(rt: HostRuntime) {
     let gate = Turns {

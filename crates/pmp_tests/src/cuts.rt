@@ -8,27 +8,27 @@ use std::thread::Threads;
 /// One publication: entry 0 lets all modes read a page.
 const SCRIPT: &[u8] = b"pmp 1\nwrite pmpaddr0 0x200001ff\nwrite pmpcfg0 0x19\npublish\n";
 
-/// A trace with each form of a line's end, with blank lines, and without an end behind its last row.
+/// A trace with each form of line end, with blank lines, and without a line end after its last row.
 const TRACE: &[u8] =
     b"\nafter,mode,kind,start,length\r\n0,U,load,0x80000000,4\n\n\r1,U,load,0x80000000,4\r\
     1,M,fetch,0,4\n1,\"S\",store,0x80000ffc,8";
 
-/// The same, with a row behind it that asks for fewer publications than the row before.
+/// The same, followed by a row that asks for fewer publications than the previous one.
 const FALLING: &[u8] =
     b"\nafter,mode,kind,start,length\r\n0,U,load,0x80000000,4\n\n\r1,U,load,0x80000000,4\r\
     1,M,fetch,0,4\n1,\"S\",store,0x80000ffc,8\n0,U,load,0,4\n1,U,load,0,4\n";
 
-/// A piece of so many bytes has room for the longest line, the header, and for the line's ends around it.
+/// A piece of this many bytes has room for the longest line, the header, and the line ends around it.
 const ROOM: usize = 30;
 
-/// Why a line that is longer than a piece is refused.
+/// The refusal of a line that is longer than a piece.
 const LONG_LINE: AuditFault = AuditFault::Trace(TraceFault {
     kind: Refusal::TooLong,
     row: 0,
     field: None,
 });
 
-/// What an audit answers and writes that takes pieces of at most so many bytes, and so many of them at a time.
+/// Returns the result and the report of an audit with pieces of at most `limit` bytes and `jobs` of them at a time.
 fn audit_by_pieces<R: Threads + Sync>(
     rt: &R,
     alloc: Global,
@@ -47,8 +47,8 @@ fn are_rows_of(rows: &[u8], report: &[u8]) -> bool {
     report.starts_with(rows) && (rows.is_empty() || rows.ends_with(b"\n"))
 }
 
-/// Wherever pieces end, and on however many the audit works at a time, it answers as an audit of the whole trace does,
-/// or the pieces are too short for a line: then whole rows of that answer were written.
+/// Wherever pieces end, and with any number of jobs, the audit answers like an audit of the whole trace, unless the
+/// pieces are too short for a line: then whole rows of that answer were written.
 #[test]
 fn cuts_show_nowhere(rt: HostRuntime) {
     let mut whole = Vec::new(rt.alloc());
@@ -65,8 +65,8 @@ fn cuts_show_nowhere(rt: HostRuntime) {
     }
 }
 
-/// A row that asks for fewer publications than the row before is refused wherever pieces end, behind rows of the answer
-/// to the trace without it.
+/// A row that asks for fewer publications than the previous row is refused wherever pieces end, after rows of the
+/// answer to the trace without it.
 #[test]
 fn order_goes_over_cuts(rt: HostRuntime) {
     let order = AuditFault::Trace(TraceFault {

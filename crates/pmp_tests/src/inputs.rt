@@ -9,7 +9,7 @@ use std::io;
 use std::io::{ErrorKind, Read};
 use std::process::Abort;
 
-/// Gives up to seven bytes at a read. Once it has given so many, it fails at one read, and ends at the next.
+/// Gives up to seven bytes at a read. Once it has given `most`, it fails at one read, and ends at the next.
 #[derive(Drop)]
 struct Failing {
     given: u64,
@@ -36,7 +36,7 @@ impl Read for Failing {
 }
 
 /// A reader that never ends gives one byte above the limit and no more. A failed read isn't tried again: a second try
-/// would find the end, and what was read before would be an answer.
+/// would find the end, and what was read before would count as the whole.
 #[test]
 fn takes_no_more_than_it_needs(rt: HostRuntime) {
     for (most, kind, given, reads, fault) in [
@@ -58,7 +58,7 @@ fn takes_no_more_than_it_needs(rt: HostRuntime) {
     }
 }
 
-/// So many blocks of 4,096 line feeds, and one more.
+/// Returns the given number of blocks of 4,096 line feeds, and one more.
 fn line_feeds(rt: &impl Abort, alloc: Global, blocks: usize) -> Vec<u8> {
     let mut text = Vec::new(alloc);
     text.push(b'\n').ok().expect(rt, "memory");
@@ -70,7 +70,7 @@ fn line_feeds(rt: &impl Abort, alloc: Global, blocks: usize) -> Vec<u8> {
     text
 }
 
-/// One byte above the limit. A reader that looked at the text would answer that there is no version, and no header.
+/// One byte above the limit. Code that looked at the text would report that there is no version, and no header.
 #[test]
 fn longer_texts_are_too_long(rt: HostRuntime) {
     let script = line_feeds(&rt, rt.alloc(), MAX_SCRIPT / 4096);

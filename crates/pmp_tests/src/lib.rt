@@ -1,5 +1,5 @@
 //! Tests of the libraries' public calls: what no contract says, and what neither a row of text nor a call from C shows.
-//! They have a crate of their own, since each crate with tests is proved twice.
+//! They have a crate of their own, because each crate with tests is proved twice.
 #![tactic(auto)]
 
 #[cfg(test)]

@@ -1,11 +1,11 @@
-//! All bytes to a writer that may fail.
+//! Writing all bytes to a writer that may fail.
 
 use pmp_text::{OutputFault, write_out};
 use std::io;
 use std::io::{ErrorKind, Write};
 
-/// Takes up to seven bytes at a write and holds so many. Then a write takes none; or it fails, and the next would take
-/// more. The first flush fails, or doesn't.
+/// Takes up to seven bytes at a write and holds `room`. After that a write takes none; or it fails, and the next would
+/// take more. The first flush fails, or doesn't.
 #[derive(Drop)]
 struct Tight {
     held: Vec<u8>,
@@ -42,8 +42,8 @@ impl Write for Tight {
 
 const TEXT: &[u8; 22] = b"seven bytes at a write";
 
-/// All bytes are written by as many writes as that takes, and flushed once. A write or a flush that fails isn't tried
-/// again: a second try would be taken.
+/// All bytes are written in as many writes as needed, and flushed once. A write or a flush that fails isn't tried
+/// again: a second try would succeed.
 #[test]
 fn writes_a_beginning(rt: HostRuntime) {
     for (room, when_full, fails, calls, want) in [

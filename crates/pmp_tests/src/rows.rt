@@ -1,4 +1,4 @@
-//! The longest rows, for which there is room.
+//! The longest rows, which must fit.
 
 use pmp_core::*;
 use pmp_text::{Since, write_entries, write_row};

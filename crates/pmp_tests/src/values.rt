@@ -1,11 +1,11 @@
-//! Values that neither a text nor a number at the C boundary makes.
+//! Values that neither a text nor a number at the C boundary produces.
 
 ghost use Rattle.std.specs.Prelude.{◌≡◌, ◌↔◌, IsTrue};
 
 use pmp_core::*;
 use pmp_map::Run;
 
-/// `==` tells values of these types apart, and says that equal ones are the same.
+/// `==` distinguishes values of these types, and says that equal ones are equal.
 fn are_same_decisions(one: &Decision, other: &Decision) -> bool
     ensures { IsTrue result ↔ one.now ≡ other.now }
 {
@@ -24,7 +24,7 @@ fn are_same_runs(one: &Run, other: &Run) -> bool
     one == other
 }
 
-/// What vectors of fixed capacity fill their places with.
+/// The defaults with which vectors of fixed capacity are filled.
 #[test]
 fn defaults_refuse(rt: HostRuntime) {
     let refused = Decision {

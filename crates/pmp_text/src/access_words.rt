@@ -6,7 +6,7 @@ ghost use Rattle.pmp_text.specs.AccessWords.{mode_named, kind_named};
 use crate::words::is_word;
 use pmp_core::{Kind, Mode};
 
-/// The mode that a word names: `M`, `S` or `U`.
+/// Returns the mode that a word names: `M`, `S` or `U`.
 pub fn read_mode(word: &[u8]) -> Option<Mode>
     ensures { result ≡ mode_named word.now }
 {
@@ -18,7 +18,7 @@ pub fn read_mode(word: &[u8]) -> Option<Mode>
     }
 }
 
-/// The kind that a word names: `fetch`, `load` or `store`.
+/// Returns the kind that a word names: `fetch`, `load` or `store`.
 pub fn read_kind(word: &[u8]) -> Option<Kind>
     ensures { result ≡ kind_named word.now }
 {

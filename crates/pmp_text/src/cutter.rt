@@ -1,4 +1,4 @@
-//! What a reader gives, in pieces that end at a line's end.
+//! The bytes of a reader, cut into pieces that end at line ends.
 
 ghost use Rattle.std.specs.Prelude.{◌≡◌, ◌⊎◌, ◌-◌, ◌<◌, ◌≤◌, IfErr, IfOk, MatchOption, drop, false, length, slice_index};
 ghost use Rattle.std.specs.Prelude.{true, vec_len};
@@ -13,22 +13,22 @@ use std::alloc::Global;
 use std::io::Read;
 use std::mem;
 
-/// The most bytes that one read asks for.
+/// The greatest number of bytes that one read requests.
 const CHUNK: usize = 64 * 1024;
 
-/// A piece of what a reader gives.
+/// A piece of a reader's bytes.
 #[derive(Drop)]
 pub enum Cut {
-    /// The piece ends at a line's end, and something may follow.
+    /// The piece ends at a line end, and more may follow.
     Front(Vec<u8>),
     /// The reader is at its end, and so is the piece.
     Last(Vec<u8>),
 }
 
-/// Takes the next piece, of at most `limit` bytes, from those that are held and from the reader.
+/// Takes the next piece, of at most `limit` bytes, from the held bytes and the reader.
 ///
-/// What is held then begins with the line's end at which the piece ends, so that one stands in both, and the first
-/// piece alone begins as the whole does. `TooLong` comes where the bytes behind the first one have no line's end.
+/// The held bytes then begin with the line end that ends the piece, so it is part of both, and only the first piece
+/// begins as the whole input does. Returns `TooLong` if the bytes after the first one have no line end.
 pub fn cut_piece<R: Read>(
     alloc: Global,
     reader: &mut R,
@@ -47,10 +47,10 @@ pub fn cut_piece<R: Read>(
     Ok(Cut::Front(mem::replace(held, rest)))
 }
 
-/// Takes the next whole lines, of at most `limit` bytes, from those that are held and from the reader. Each of them ends
-/// by LF, but the last one where the reader is at its end.
+/// Takes the next whole lines, of at most `limit` bytes, from the held bytes and the reader. Each of them ends with LF,
+/// except perhaps the last one at the end of the input.
 ///
-/// What is held then begins the next line. `TooLong` comes where the first line has `limit` bytes and no LF.
+/// The held bytes then begin with the next line. Returns `TooLong` if the first line has `limit` bytes and no LF.
 pub fn cut_lines<R: Read>(
     alloc: Global,
     reader: &mut R,
@@ -69,7 +69,7 @@ pub fn cut_lines<R: Read>(
     Ok(Cut::Front(mem::replace(held, rest)))
 }
 
-/// How many bytes end with the last LF.
+/// Returns the number of bytes up to and including the last LF.
 fn line_feed_end(bytes: &[u8]) -> Option<usize>
     ensures { MatchOption result (list_any is_line_feed bytes.now ≡ false)
         (λ end. (0 < end) × (end ≤ length bytes.now) × (slice_index bytes.now (end - 1) ≡ 10)) }
@@ -84,7 +84,7 @@ fn line_feed_end(bytes: &[u8]) -> Option<usize>
     None
 }
 
-/// Takes bytes from the reader until so many are held, or it is at its end: whether that is so.
+/// Takes bytes from the reader until `limit` are held or it is at its end, and returns whether it is.
 fn fill<R: Read>(reader: &mut R, held: &mut Vec<u8>, limit: usize) -> Result<bool, InputFault>
     requires { vec_len held.old ≤ limit }
     ensures filled { IfOk result
@@ -103,7 +103,7 @@ fn fill<R: Read>(reader: &mut R, held: &mut Vec<u8>, limit: usize) -> Result<boo
     Ok(false)
 }
 
-/// The place of the last line's end behind the first byte.
+/// Returns the position of the last line end after the first byte.
 fn last_line_end(bytes: &[u8]) -> Option<usize>
     ensures { MatchOption result (list_any is_line_end (drop 1 bytes.now) ≡ false)
         (λ end. (0 < end) × (end < length bytes.now)

@@ -1,4 +1,4 @@
-//! Where the events of a script are kept.
+//! Logs: the storage of a script's events.
 
 ghost use Rattle.std.specs.Prelude.{◌≡◌, ◌++◌, ◌∷◌, [], OnErr, OnOk, length};
 ghost use Rattle.pmp_text.specs.EventLogs.{Kept, nothing_kept, with_end, with_event, with_expectation};
@@ -13,12 +13,12 @@ pub use log::{FixedLog, GrowingLog};
 use pmp_core::Event;
 use std::alloc::AllocError;
 
-/// What a script's events are kept in while it is read, and from then on: vectors that grow, or arrays that may be
-/// full. The events of each publication stand behind those of the ones before it.
+/// The storage of a script's events while it is read and from then on: vectors that grow, or arrays that may become
+/// full. The events of each publication follow those of the previous ones.
 pub trait EventLog {
     ghost kept: { Self → Kept };
 
-    /// Forgets all that is kept.
+    /// Discards everything.
     fn clear(&mut self)
         ensures { kept self.new ≡ nothing_kept };
 
@@ -27,7 +27,7 @@ pub trait EventLog {
         ensures ok { OnOk result (kept self.new ≡ with_event (kept self.old) line event) }
         ensures err { OnErr result (kept self.new ≡ kept self.old) };
 
-    /// Has a publication end behind the last event, or does nothing.
+    /// Ends a publication after the last event, or does nothing.
     fn end(&mut self) -> Result<(), AllocError>
         ensures ok { OnOk result (kept self.new ≡ with_end (kept self.old)) }
         ensures err { OnErr result (kept self.new ≡ kept self.old) };
@@ -42,23 +42,23 @@ pub trait EventLog {
         ensures ok { OnOk result (kept self.new ≡ with_mark (kept self.old) mark) }
         ensures err { OnErr result (kept self.new ≡ kept self.old) };
 
-    /// All events.
+    /// Returns all events.
     fn events(&self) -> &[Event]
         ensures { result.now ≡ (kept self.now).events };
 
-    /// The line of each event.
+    /// Returns the line of each event.
     fn lines(&self) -> &[u64]
         ensures { result.now ≡ (kept self.now).lines };
 
-    /// How many events are published with each publication and those before it.
+    /// Returns, for each publication, how many events are published with it and those before it.
     fn ends(&self) -> &[usize]
         ensures { result.now ≡ (kept self.now).ends };
 
-    /// What is expected of registers.
+    /// Returns what is expected of registers.
     fn expectations(&self) -> &[Expectation]
         ensures { result.now ≡ (kept self.now).expectations };
 
-    /// The moments that have names.
+    /// Returns the moments that have names.
     fn marks(&self) -> &[Mark]
         ensures { result.now ≡ (kept self.now).marks };
 }

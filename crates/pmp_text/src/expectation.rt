@@ -2,14 +2,14 @@
 
 use pmp_core::Csr;
 
-/// What a register has at a place in a script, by a line of the script.
+/// What a script expects a register to hold at one of its lines.
 #[derive(Clone, Copy, Debug, PartialEq, Eq)]
 pub struct Expectation {
     pub register: Csr,
     pub value: u64,
     /// The line, counted from 1.
     pub line: u64,
-    /// How many events of the script stand before it.
+    /// How many events of the script come before it.
     pub events: u64,
 }
 

@@ -1,4 +1,4 @@
-//! What is wrong with a line or a row, and with which part of it.
+//! What is wrong with a line or a row, and which part of it.
 
 ghost use Rattle.std.specs.Prelude.{◌≡◌};
 ghost use Rattle.pmp_text.specs.Flaws.{at_line, at_row, part, as_whole};
@@ -7,16 +7,16 @@ use crate::refusal::Refusal;
 use crate::script::ScriptFault;
 use crate::trace::TraceFault;
 
-/// What is wrong with a line of a script or a row, wherever it stands.
+/// What is wrong with a line of a script or with a row, without its position.
 #[derive(Clone, Copy, Debug, PartialEq, Eq)]
 pub struct Flaw {
     pub kind: Refusal,
-    /// The word of the line, or the field of the row, counted from 0; none where it is the whole.
+    /// The word of the line, or the field of the row, counted from 0; none for the whole.
     pub part: Option<usize>,
 }
 
 impl Refusal {
-    /// The flaw of the word or field with this index.
+    /// Returns the flaw of the word or field with this index.
     pub fn part(self, index: usize) -> Flaw
         ensures { result ≡ part index self }
     {
@@ -26,7 +26,7 @@ impl Refusal {
         }
     }
 
-    /// The flaw of a line, a row or a text as a whole.
+    /// Returns the flaw of a line, a row or a text as a whole.
     pub fn whole(self) -> Flaw
         ensures { result ≡ as_whole self }
     {
@@ -38,7 +38,7 @@ impl Refusal {
 }
 
 impl Flaw {
-    /// The fault of a line with this number, or 0 for the text as a whole.
+    /// Returns the fault of the line with this number; 0 is the text as a whole.
     pub(crate) fn at_line(self, line: u64) -> ScriptFault
         ensures { result ≡ at_line line self }
     {
@@ -49,7 +49,7 @@ impl Flaw {
         }
     }
 
-    /// The fault of a row with this number, or 0 for the text as a whole.
+    /// Returns the fault of the row with this number; 0 is the text as a whole.
     pub fn at_row(self, row: u64) -> TraceFault
         ensures { result ≡ at_row row self }
     {

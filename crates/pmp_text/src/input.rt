@@ -9,16 +9,16 @@ use crate::script::MAX_HEADED_SCRIPT;
 use std::alloc::Global;
 use std::io::Read;
 
-/// The largest limit that `read_bytes` keeps.
+/// The greatest limit that `read_bytes` honors.
 pub const MAX_LIMIT: u64 = MAX_HEADED_SCRIPT as u64;
 
-/// The most bytes that one read asks for.
+/// The greatest number of bytes that one read requests.
 const CHUNK: usize = 8 * 1024;
 
-/// All bytes that the reader has left, which are at most `limit`.
+/// Returns all bytes that the reader has left, which are at most `limit`.
 ///
-/// `TooLong` comes as soon as one byte more was taken, and no later byte is. A read that fails is not tried again,
-/// so one that a signal interrupts is `Input` too.
+/// Returns `TooLong` as soon as one byte more was taken, and takes no later byte. A failed read is not tried again, so
+/// an interruption by a signal is `Input` too.
 pub fn read_bytes<R: Read>(alloc: Global, reader: &mut R, limit: u64) -> Result<Vec<u8>, InputFault>
     requires { limit ≤ MAX_LIMIT }
 
@@ -36,7 +36,7 @@ pub fn read_bytes<R: Read>(alloc: Global, reader: &mut R, limit: u64) -> Result<
     }
 }
 
-/// Reads once, and takes no more than one byte above `room`: how many bytes came, none only at the end.
+/// Reads once, and takes at most one byte more than `room`: returns how many bytes came, none only at the end.
 fn read_part<R: Read>(reader: &mut R, chunk: &mut [u8], room: u64) -> Result<usize, InputFault>
     requires not_empty { 0 < length chunk.old }
     requires small { room ≤ MAX_LIMIT }

@@ -1,4 +1,4 @@
-//! The formats: scripts, traces and policies are read, and every line of an answer is written, byte by byte.
+//! The formats: reads scripts, traces and policies, and writes every line of an answer, byte by byte.
 #![tactic(auto)]
 
 mod access_words;

@@ -1,4 +1,4 @@
-//! Lines that join an output.
+//! Lines that are appended to an output.
 
 ghost use Rattle.std.specs.Prelude.{◌≡◌, ◌++◌, ◌<◌, ◌^◌, IfOk, IfSome, OnErr, OnOk};
 
@@ -31,13 +31,13 @@ pub use runs::write_runs;
 pub use script::write_script;
 pub use since::Since;
 pub use verdict::{Breach, Verdict, write_verdict};
-/// There is no room for more of a text, as the calls say that append texts.
+/// There is no room for more of a text: the error of the calls that append texts.
 pub use std::alloc::AllocError as NoMemory;
 use std::alloc::AllocError;
 use std::fmt::{Display, Write};
 
-/// The most bytes of a line. No line of what this crate writes has more than some four hundred; for a longer one there
-/// would be no room.
+/// The greatest length of a line in bytes. No line that this crate writes is longer than some four hundred bytes; a
+/// longer one would find no room.
 const LINE: usize = 512;
 
 /// Appends a line, or nothing.
@@ -48,7 +48,7 @@ pub fn append_line<S: Sink, L: Display + Drop>(out: &mut S, line: L) -> Result<(
     append_text::<LINE, S, L>(out, line)
 }
 
-/// Appends a text of at most so many bytes, or nothing.
+/// Appends a text of at most `MOST` bytes, or nothing.
 fn append_text<const MOST: usize, S: Sink, L: Display + Drop>(
     out: &mut S,
     text: L,
@@ -61,7 +61,7 @@ fn append_text<const MOST: usize, S: Sink, L: Display + Drop>(
     out.append(text.as_str().as_bytes())
 }
 
-/// The text by itself.
+/// Returns the text by itself.
 fn text_of<const MOST: usize, L: Display + Drop>(text: L) -> Result<ArrayString<MOST>, AllocError>
     requires { MOST < 2 ^ 16 }
     ensures { IfOk result (λ written. IfSome (L.output text) (λ bytes. written.bytes ≡ bytes)) }

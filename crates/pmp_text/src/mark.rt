@@ -7,13 +7,13 @@ ghost use Rattle.pmp_text.specs.Marks.{name_said, same_name, zero_place};
 
 use crate::words::is_word;
 
-/// The most bytes of a name.
+/// The greatest length of a name in bytes.
 pub const NAME_BYTES: usize = 64;
 
-/// A name: a letter, and letters, digits, `_` and `.` behind it, at most [`NAME_BYTES`] bytes in all.
+/// A name: a letter, then letters, digits, `_` and `.`, at most [`NAME_BYTES`] bytes in all.
 #[derive(Clone, Copy, Debug, PartialEq, Eq)]
 pub struct Name {
-    /// Zeros stand behind it.
+    /// The name, padded with zeros.
     bytes: [u8; NAME_BYTES],
 }
 
@@ -46,7 +46,7 @@ fn is_name_byte(byte: u8) -> bool
     is_letter(byte) || matches!(byte, b'0'..=b'9' | b'_' | b'.')
 }
 
-/// Whether the word has a meaning of its own where a moment may be named.
+/// Whether the word has a meaning of its own in places that may name a moment.
 fn is_taken(word: &[u8]) -> bool
     ensures { result ≡ is_taken word.now }
 {
@@ -77,7 +77,7 @@ fn is_name(word: &[u8]) -> bool
     begins_with_letter(word) && are_name_bytes(word) && word.len() <= NAME_BYTES && !is_taken(word)
 }
 
-/// Where the first zero stands.
+/// Returns the position of the first zero.
 fn zero_place(bytes: &[u8]) -> Option<usize>
     ensures place { result ≡ zero_place bytes.now }
     ensures inside { IfSome result (λ place. place < length bytes.now) }
@@ -86,7 +86,7 @@ fn zero_place(bytes: &[u8]) -> Option<usize>
 }
 
 impl Name {
-    /// The name that a word is.
+    /// Returns the name that a word is.
     pub fn read(word: &[u8]) -> Option<Name>
         ensures { result ≡ name_said word.now }
     {
@@ -98,7 +98,7 @@ impl Name {
         Some(Name { bytes })
     }
 
-    /// Its bytes, without the zeros behind it.
+    /// Returns its bytes, without the zeros after it.
     pub fn as_bytes(&self) -> &[u8]
         ensures { result.now ≡ name_bytes self.now }
     {

@@ -1,4 +1,4 @@
-//! The moments of a script, as words say them.
+//! The moments of a script, as words name them.
 
 ghost use Rattle.std.specs.Prelude.{◌≡◌, ◌≤◌};
 ghost use Rattle.pmp_text.specs.Moments.{after_said, asked_between, done_at, is_backward, label_place, label_said};
@@ -11,7 +11,7 @@ use crate::refusal::Refusal;
 use crate::words::is_word;
 use std::marker::Model;
 
-/// The first moment from which a thing holds to the end, where there is one. A moment is how many publications are
+/// The first moment from which a condition holds to the end, if there is one. A moment is a number of publications
 /// done.
 #[derive(Clone, Copy, Debug, Default, PartialEq, Eq)]
 pub struct Lasting {
@@ -23,14 +23,14 @@ pub struct Lasting {
     pub rlb_clear: Option<u64>,
 }
 
-/// The moments of a script that words may say.
+/// The moments of a script that words may name.
 #[derive(Drop)]
 pub struct Moments<'a> {
     /// How many publications the script has.
     pub publications: u64,
-    /// Those that the script names. In versions 1 and 2 words are numbers.
+    /// Those that the script names. None in versions 1 and 2, whose words are numbers.
     pub marks: Option<&'a [Mark]>,
-    /// Where words may say that, from when on bits of `mseccfg` hold to the end.
+    /// From when on bits of `mseccfg` keep their value to the end, if words may ask for that.
     pub lasting: Option<Lasting>,
 }
 
@@ -47,35 +47,35 @@ impl<'a> Model for Moments<'a> {
     } };
 }
 
-/// What a word says of a moment that is no number.
+/// What a word that is not a number says about a moment.
 #[derive(Clone, Copy, Debug, PartialEq, Eq)]
 pub enum MomentName {
-    /// So many publications before the last moment.
+    /// The given number of publications before the last moment.
     Last(u64),
     /// The first one from which MML is set to the end.
     Mml,
-    /// The same of MMWP.
+    /// The first one from which MMWP is set to the end.
     Mmwp,
     /// The first one from which RLB is clear to the end.
     RlbClear,
-    /// The one that the script names so.
+    /// The one with this name in the script.
     Marked(Name),
 }
 
-/// What a word says of a moment.
+/// What a word says about a moment.
 #[derive(Clone, Copy, Debug, PartialEq, Eq)]
 pub enum When {
-    /// After so many publications.
+    /// After the given number of publications.
     Number(u64),
     Labelled(MomentName),
 }
 
-/// A moment from which a policy's row asks, or up to which.
+/// The first or the last moment of a policy's row.
 #[derive(Clone, Copy)]
 pub enum Moment {
-    /// After so many publications, by their number.
+    /// After the given number of publications, as a number.
     Numbered(u64),
-    /// By a name, after so many publications if it ever comes, and whether the row need not be met.
+    /// After that many publications, by a name, if it ever comes; and whether the row may be unmet.
     Named(Option<u64>, bool),
 }
 
@@ -83,23 +83,23 @@ pub enum Moment {
 #[derive(Clone, Copy, Debug, PartialEq, Eq)]
 pub enum Coming {
     Met,
-    /// One never comes, or the last before the first, so that the row asks of no moment.
+    /// One never comes, or the last comes before the first, so the row asks about no moment.
     Unmet,
-    /// The same, which the row allows.
+    /// As `Unmet`, but the row allows it.
     Waived,
 }
 
-/// What a policy's row asks of.
+/// The moments that a policy's row asks about.
 #[derive(Clone, Copy)]
 pub struct Asked {
-    /// The least number of publications that are done.
+    /// The smallest number of publications that are done.
     pub from: u64,
     /// The greatest number of publications that are done.
     pub to: u64,
     pub coming: Coming,
 }
 
-/// How many publications are done at the moment that has the name.
+/// Returns how many publications are done at the moment with this name.
 fn done_at(marks: &[Mark], name: &Name) -> Option<u64>
     ensures { result ≡ done_at marks.now name.now }
 {
@@ -107,7 +107,7 @@ fn done_at(marks: &[Mark], name: &Name) -> Option<u64>
     Some(mark.done)
 }
 
-/// What a row asks of whose moments don't come.
+/// Returns what a row asks about if its moments don't come.
 fn unasked(publications: u64, is_waived: bool) -> Asked
     ensures { result ≡ unasked publications is_waived }
 {
@@ -124,7 +124,7 @@ fn unasked(publications: u64, is_waived: bool) -> Asked
 }
 
 impl Moment {
-    /// How many publications are done there, where it comes.
+    /// Returns how many publications are done there, if it comes.
     fn place(self) -> Option<u64>
         ensures { result ≡ place_of self }
     {
@@ -156,7 +156,7 @@ impl Moment {
 }
 
 impl MomentName {
-    /// What a word says that is no number: `last`, `last-N`, `mml`, `mmwp`, `rlb-clear` or a name.
+    /// Returns what a word that is not a number says: `last`, `last-N`, `mml`, `mmwp`, `rlb-clear` or a name.
     #[tactic(auto, unfolding(crate::specs::Moments::label_said))]
     fn read(word: &[u8]) -> Option<MomentName>
         ensures { result ≡ label_said word.now }
@@ -181,7 +181,7 @@ impl MomentName {
 }
 
 impl When {
-    /// What a word says: a number, `last`, `last-N`, `mml`, `mmwp`, `rlb-clear` or a name.
+    /// Returns what a word says: a number, `last`, `last-N`, `mml`, `mmwp`, `rlb-clear` or a name.
     pub fn read(word: &[u8]) -> Option<When>
         ensures { result ≡ when_said word.now }
     {
@@ -193,8 +193,8 @@ impl When {
 }
 
 impl Moments<'_> {
-    /// How many publications are done there, or none where it never comes. `BadRow` where words may not say that of the
-    /// script, and `NoMoment` where it has no such name.
+    /// Returns how many publications are done there, or none if it never comes. `BadRow` if words may not say that
+    /// about the script, and `NoMoment` if it has no such name.
     fn place(&self, label: MomentName) -> Result<Option<u64>, Refusal>
         ensures { result ≡ label_place self.now label }
     {
@@ -208,7 +208,7 @@ impl Moments<'_> {
         }
     }
 
-    /// How many publications are done then. `NoMoment` where that never comes.
+    /// Returns how many publications are done then. `NoMoment` if that never comes.
     pub fn after(&self, when: When) -> Result<u64, Refusal>
         ensures { result ≡ when_place self.now when }
     {
@@ -218,7 +218,7 @@ impl Moments<'_> {
         }
     }
 
-    /// How many publications are done when a word says.
+    /// Returns how many publications are done at the moment that a word names.
     #[tactic(auto, unfolding(crate::specs::Moments::after_said))]
     pub fn read_after(&self, word: &[u8]) -> Result<u64, Refusal>
         ensures { result ≡ after_said self.now word.now }
@@ -229,7 +229,7 @@ impl Moments<'_> {
         }
     }
 
-    /// The same, where a word is seldom. It stands alone since each row of a trace would else clear the room of a name.
+    /// Returns the same for rarer words. It is out of line so that rows of a trace needn't clear the room of a name.
     #[cold]
     #[inline(never)]
     #[tactic(auto, unfolding(crate::specs::Moments::after_said))]
@@ -240,7 +240,7 @@ impl Moments<'_> {
         self.after(when)
     }
 
-    /// What a word that is no number says of a policy's row.
+    /// Returns what a word that is not a number says in a policy's row.
     #[tactic(auto, unfolding(crate::specs::Moments::moment_named))]
     fn named(&self, word: &[u8]) -> Result<Moment, Refusal>
         ensures { result ≡ moment_named self.now word.now }
@@ -254,8 +254,8 @@ impl Moments<'_> {
         Ok(Moment::Named(place, is_waived))
     }
 
-    /// The moment that a word says: a number, or in version 3 `last`, `last-N`, `mml`, `mmwp`, `rlb-clear` or a name of
-    /// the script's, with ` if-any` behind it where it may never come. `BadRow` where it says none, and `NoMoment` where
+    /// Returns the moment that a word names: a number, or in version 3 `last`, `last-N`, `mml`, `mmwp`, `rlb-clear` or
+    /// a name of the script, followed by ` if-any` if it may never come. `BadRow` if it names none, and `NoMoment` if
     /// the script has no such name.
     pub fn read(&self, word: &[u8]) -> Result<Moment, Refusal>
         ensures { result ≡ moment_said self.now word.now }
@@ -266,7 +266,7 @@ impl Moments<'_> {
         }
     }
 
-    /// The moment up to which a row asks that begins with this one: the word's, or the last one where it is empty.
+    /// Returns the last moment of a row whose first is this one: the word's, or the script's last if the word is empty.
     pub fn read_to(&self, from: Moment, word: &[u8]) -> Result<Moment, Refusal>
         ensures { result ≡ to_said self.now from word.now }
     {
@@ -280,7 +280,7 @@ impl Moments<'_> {
         Ok(to)
     }
 
-    /// What a row asks of that goes from one moment to the other.
+    /// Returns what a row from one moment to the other asks about.
     pub fn between(&self, from: Moment, to: Moment) -> Asked
         ensures asked { result ≡ asked_between self.now.publications from to }
         ensures forward { result.from ≤ self.now.publications → result.from ≤ result.to }

@@ -1,4 +1,4 @@
-//! The names of registers, read and written.
+//! The names of registers, reading and writing.
 
 ghost use Rattle.std.specs.Prelude.{◌≡◌, ◌≤◌, IfSome, Some};
 ghost use Rattle.pmp_text.specs.Names.{plain_number, register_name, register_number, register_named};
@@ -17,7 +17,7 @@ const MSECCFG: u64 = 0x747;
 
 const MSECCFGH: u64 = 0x757;
 
-/// The number that the digits write in decimal without leading zeros, where it is at most `most`.
+/// Returns the number that the digits write in decimal without leading zeros, if it is at most `most`.
 #[tactic(auto, unfolding(crate::specs::Names::plain_number))]
 pub fn read_plain_number(digits: &[u8], most: u64) -> Option<u64>
     ensures number { result ≡ plain_number most digits.now }
@@ -30,7 +30,7 @@ pub fn read_plain_number(digits: &[u8], most: u64) -> Option<u64>
     (number <= most).then_some(number)
 }
 
-/// The number of the register that a word names.
+/// Returns the number of the register that a word names.
 #[tactic(auto, unfolding(crate::specs::Names::register_number))]
 pub fn read_register_number(word: &[u8]) -> Option<u64>
     ensures { result ≡ register_number word.now }
@@ -50,7 +50,7 @@ pub fn read_register_number(word: &[u8]) -> Option<u64>
     read_numeral(word.strip_prefix(b"0x")?, 16, 16)
 }
 
-/// The register that a word names, where XLEN is 32, or 64.
+/// Returns the register that a word names, for an XLEN of 32 or 64.
 pub fn read_register(is_rv32: bool, word: &[u8]) -> Result<Csr, Refusal>
     ensures { result ≡ register_named is_rv32 word.now }
 {

@@ -5,7 +5,7 @@ ghost use Rattle.pmp_text.specs.Numbers.{is_bare, numeral, word_number};
 
 use crate::lines::ADDRESS_DIGITS;
 
-/// The number with one more digit at its end, if it is below `2^64`.
+/// Returns the number with one more digit at its end, if it is below `2^64`.
 #[inline(always)]
 fn with_digit(number: u64, radix: u32, digit: u32) -> Option<u64>
     ensures { MatchOption result (2 ^ 64 ≤ number * radix + digit)
@@ -16,7 +16,7 @@ fn with_digit(number: u64, radix: u32, digit: u32) -> Option<u64>
         .checked_add(u64::from(digit))
 }
 
-/// The number that the digits write, where there is at least one and at most `most` of them and the number is
+/// Returns the number that the digits write, if there is at least one and at most `most` of them and the number is
 /// below `2^64`.
 #[inline(always)]
 #[tactic(auto, unfolding(crate::specs::Numbers::numeral, crate::specs::Numbers::is_numeral))]
@@ -36,7 +36,7 @@ pub fn read_numeral(digits: &[u8], radix: u32, most: usize) -> Option<u64>
     Some(value)
 }
 
-/// The number that a word writes, if it writes one below `2^64`.
+/// Returns the number that a word writes, if it writes one below `2^64`.
 pub fn read_word_number(word: &[u8]) -> Option<u64>
     ensures { result ≡ word_number word.now }
 {
@@ -46,7 +46,7 @@ pub fn read_word_number(word: &[u8]) -> Option<u64>
     }
 }
 
-/// Whether a number has as many digits as rows have for an address, and no `0x`: it is read in decimal, where rows mean
+/// Whether a number has as many digits as an address in rows, but no `0x`: it is read as decimal, though rows write
 /// hexadecimal.
 pub fn is_bare(word: &[u8]) -> bool
     ensures { result ≡ is_bare word.now }

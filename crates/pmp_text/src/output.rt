@@ -17,8 +17,7 @@ impl From<io::Error> for OutputFault {
     }
 }
 
-/// Writes all bytes, and flushes. A write that fails is not tried again, so one that a signal interrupts is a fault
-/// too.
+/// Writes all bytes, and flushes. A failed write is not tried again, so an interruption by a signal is a fault too.
 pub fn write_out<W: Write>(writer: &mut W, bytes: &[u8]) -> Result<(), OutputFault>
     ensures ok { OnOk result (Appends (W.contents writer.old) (W.contents writer.new) bytes.now) }
     ensures err { OnErr result (AppendsBeginning (W.contents writer.old) (W.contents writer.new) bytes.now) }

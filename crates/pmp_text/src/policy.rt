@@ -16,20 +16,19 @@ use pmp_core::{Kind, Mode};
 pub use reader::read_policy;
 pub use row_fields::{COMMENT, NAME, PolicyFields};
 
-/// What is demanded of the bytes that a row speaks of. A byte is open to a mode and a kind where the access of that one
-/// byte is allowed.
+/// The demand on the bytes of a row. A byte is open to a mode and a kind if the access of that one byte is allowed.
 #[derive(Clone, Copy, Debug, PartialEq, Eq)]
 pub enum Demand {
     /// None of them is ever open to one of the modes by one of the kinds.
     Never,
     /// Each of them is always open to each of the modes by each of the kinds.
     Always,
-    /// As `Never`, and in the end no list of writes opens one: its owner is frozen with all entries before it, or where
-    /// it has none, all entries are.
+    /// As `Never`, and in the end no list of writes opens one: its owner and all entries before it are frozen, or,
+    /// without an owner, all entries are.
     Held,
 }
 
-/// The kinds of access that a row speaks of.
+/// The kinds of access that a row is about.
 #[derive(Clone, Copy, Debug, PartialEq, Eq)]
 pub enum Kinds {
     /// This one.
@@ -38,7 +37,7 @@ pub enum Kinds {
     Any,
 }
 
-/// The modes that a row speaks of.
+/// The modes that a row is about.
 #[derive(Clone, Copy, Debug, PartialEq, Eq)]
 pub struct Modes {
     pub machine: bool,
@@ -75,12 +74,12 @@ impl Kinds {
     }
 }
 
-/// A row of a policy: what is demanded of accesses of these modes and kinds to the bytes from `first` to `last`, after
-/// `from` publications of the script and after each further one up to `to`. Its ghost fields say that neither ends
-/// before it begins, and that each byte is one of physical memory.
+/// A row of a policy: a demand on accesses of these modes and kinds to the bytes from `first` to `last`, after `from`
+/// publications of the script and after each further one up to `to`. Its ghost fields say that neither range ends
+/// before it begins, and that each byte is in physical memory.
 #[derive(Clone, Copy, Debug, PartialEq, Eq)]
 pub struct PolicyRow {
-    /// The least number of publications that are done.
+    /// The smallest number of publications that are done.
     pub from: u64,
     /// The greatest number of publications that are done.
     pub to: u64,
@@ -91,9 +90,9 @@ pub struct PolicyRow {
     /// The byte address of the last byte.
     pub last: u64,
     pub demand: Demand,
-    /// Whether the moments that it speaks of come. Where they don't, it asks of none.
+    /// Whether the moments that it names come. If they don't, it asks about none.
     pub coming: Coming,
-    /// Whether `first` or `last` is 14 digits without `0x`: a decimal number, where rows mean hexadecimal.
+    /// Whether `first` or `last` is 14 digits without `0x`: a decimal number, though rows write hexadecimal.
     pub is_bare: bool,
     pub ghost forward: { from ≤ to },
     pub ghost ordered: { first ≤ last },
@@ -104,7 +103,7 @@ pub struct PolicyRow {
 #[derive(Drop)]
 pub struct Policy {
     pub rows: Vec<PolicyRow>,
-    /// The label of each row, or none where the header names neither names nor comments.
+    /// The label of each row, or none if the header has neither names nor comments.
     pub labels: Vec<Label>,
 }
 
@@ -112,9 +111,9 @@ impl PolicyRow {
     ghost use Rattle.std.specs.Prelude.{IfErr, IfOk, None, Some};
     ghost use Rattle.pmp_text.specs.Policies.{policy_fields, proper_fields_fault};
 
-    /// The row that these fields say beside a script with so many publications. `BadRow` where `to` or `last` lies
-    /// before its beginning, then `BadAfter` where there are fewer publications, then `PastEnd` where `last` is no
-    /// byte.
+    /// Returns the row that these fields form for a script with the given number of publications. `BadRow` if `to` or
+    /// `last` lies before its beginning, then `BadAfter` if there are fewer publications, then `PastEnd` if `last` is
+    /// no byte.
     pub fn new(publications: u64, fields: PolicyFields) -> Result<PolicyRow, Flaw>
         ensures ok { IfOk result (λ row.
             (proper_fields_fault publications fields ≡ None) × (policy_fields row ≡ fields)) }

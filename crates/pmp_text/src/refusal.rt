@@ -1,4 +1,4 @@
-//! Refusals: each has a number, a name, what was wanted in its place, and what to do.
+//! Refusals: each has a number, a name, what was wanted instead, and a remedy.
 
 ghost use Rattle.std.specs.Prelude.{◌≡◌, ◌≤◌, Some};
 ghost use Rattle.pmp_text.specs.Refusals.{name_of, number_of, refusal_of_access, refusal_text, status_of};
@@ -17,13 +17,13 @@ pub enum Refusal {
     PastEnd = 4,
     /// The first significant line of a script is none of `pmp 1`, `pmp 2` and `pmp 3`, or there is none.
     BadVersion = 10,
-    /// A later line of a script is no statement.
+    /// A later line of a script is not a statement.
     BadLine = 11,
-    /// A name or number of no register.
+    /// A name or number that names no register.
     BadName = 12,
-    /// A `pmpcfg` register with an odd number, which the hart of RV64 doesn't have.
+    /// A `pmpcfg` register with an odd number, which an RV64 hart lacks.
     OddCfg = 13,
-    /// A value that is no number below `2^64`, or that is written on RV32 and not below `2^32`.
+    /// A value that is not a number below `2^64`, or one written on RV32 that is not below `2^32`.
     BadNumber = 14,
     /// More than 64 events stand before a script's `publish`.
     BatchFull = 15,
@@ -33,13 +33,13 @@ pub enum Refusal {
     TooLong = 17,
     /// The first record of a trace or a policy doesn't name the fields, or there is none.
     BadHeader = 20,
-    /// A row that hasn't as many fields as the header, or a field that isn't what its place asks for.
+    /// A row with another number of fields than the header, or a field that is not valid in its place.
     BadRow = 21,
     /// More publications than the script has.
     BadAfter = 22,
     /// A row of a trace that asks for fewer publications than the row before.
     Order = 23,
-    /// A word of the command line that isn't what its place asks for.
+    /// A word of the command line that is not valid in its place.
     BadWord = 24,
     /// A unit that several threads share has no place for a checker or a notice.
     NoPlace = 30,
@@ -47,13 +47,13 @@ pub enum Refusal {
     Full = 31,
     /// More events are published than were asked for.
     Moved = 32,
-    /// No memory.
+    /// Out of memory.
     Memory = 40,
     /// An input that can't be opened or read.
     Input = 41,
     /// An output that can't be written.
     Output = 42,
-    /// A `hart` or `set` line stands after the first `write`, `reset` or `publish`.
+    /// A `hart` or `set` line comes after the first `write`, `reset` or `publish`.
     LateHead = 50,
     /// The same is said of the hart twice, the same register is set twice, or two moments have one name.
     Twice = 51,
@@ -65,44 +65,44 @@ pub enum Refusal {
     NotHeld = 54,
     /// A grain that no hart has.
     BadGrain = 55,
-    /// A moment's name that is none.
+    /// A moment's name that is invalid.
     BadMark = 56,
-    /// A `mark` stands behind an event and above its `publish`.
+    /// A `mark` is between an event and its `publish`.
     OpenMark = 57,
-    /// A name that the script gives no moment.
+    /// A name that the script gives to no moment.
     NoMoment = 58,
-    /// An entry that no hart has, or a range that it can't have there.
+    /// An entry that no hart has, or a range that the entry can't have there.
     BadEntry = 59,
     /// A line of a log names a PMP register or one of its events in another form.
     BadEvent = 60,
     /// A log has no write, and no register, of the hart.
     NoHart = 61,
-    /// A word that names no form of logs.
+    /// A word that names no log format.
     BadFormat = 62,
     /// More than 1,048,576 events or publications of a script.
     TooMany = 63,
-    /// A folder without scripts, with too many, or with a name that rows can't begin with, or two folders with other
-    /// names.
+    /// A folder without scripts, with too many, or with a name that rows can't begin with, or two folders whose names
+    /// differ.
     BadFolder = 64,
     /// Two rows of a plan have a byte in common.
     Overlap = 65,
-    /// Rights of a plan's row that no entry gives, or none that can be held.
+    /// Rights in a plan's row that no entry gives, or that no held entry gives.
     BadPair = 66,
     /// A row of a plan begins or ends inside a grain.
     TooFine = 67,
-    /// A plan takes more entries than the hart has.
+    /// A plan needs more entries than the hart has.
     FewEntries = 68,
     /// The search for a plan's entries stopped at its bound.
     Stopped = 69,
 }
 
-/// Why a script is refused: 10 to 17, 40, and in version 3 50 to 57, 59 and 63.
+/// The reasons why a script is refused: 10 to 17, 40, and in version 3 50 to 57, 59 and 63.
 pub type ScriptKind = Refusal;
 
-/// Why a trace or a policy is refused: 3, 4, 17, 20 to 23, 40 and 41.
+/// The reasons why a trace or a policy is refused: 3, 4, 17, 20 to 23, 40 and 41.
 pub type TraceKind = Refusal;
 
-/// Why an input gives no bytes: 17, 40 and 41. What was taken from a reader stays taken.
+/// The reasons why an input gives no bytes: 17, 40 and 41. What was taken from a reader stays taken.
 pub type InputFault = Refusal;
 
 impl Refusal {
@@ -160,7 +160,7 @@ impl Refusal {
         }
     }
 
-    /// The program's exit status: 3 where memory, an input, the output or a shared unit failed it, and else 2.
+    /// Returns the program's exit status: 3 if memory, an input, the output or a shared unit failed it, else 2.
     pub fn status(self) -> u8
         ensures value { result ≡ status_of self }
         ensures above { 2 ≤ result }
@@ -173,7 +173,7 @@ impl Refusal {
         }
     }
 
-    /// What was wanted in place of what is refused.
+    /// Returns what was wanted instead of what is refused.
     pub fn wanted(self) -> &'static str {
         match self {
             Refusal::BadLength => "a length from 1 to 4096",
@@ -237,7 +237,7 @@ impl Refusal {
         }
     }
 
-    /// What to do about it.
+    /// Returns what to do about it.
     pub fn remedy(self) -> &'static str {
         match self {
             Refusal::BadLength => "give at least one byte; make several accesses of a longer range",
@@ -300,7 +300,7 @@ impl Refusal {
     }
 }
 
-/// Number and name.
+/// Shows the number and the name.
 impl fmt::Display for Refusal {
     ghost output = { λ refusal. Some (refusal_text refusal) };
 

@@ -41,9 +41,9 @@ pub use words::Words;
 #[derive(Clone, Copy, Debug, PartialEq, Eq)]
 pub struct ScriptFault {
     pub kind: ScriptKind,
-    /// The line, counted from 1, or 0 where the fault is of no line: `TooLong` and `Memory`.
+    /// The line, counted from 1, or 0 if the fault is of no line: `TooLong` and `Memory`.
     pub line: u64,
-    /// The word of the line, counted from 0, or none where the whole line is at fault.
+    /// The word of the line, counted from 0, or none if the whole line is at fault.
     pub word: Option<usize>,
 }
 
@@ -55,8 +55,8 @@ impl From<AllocError> for ScriptFault {
     }
 }
 
-/// Where the unit of a script begins, and its publications, in their order, which a log keeps with what is expected.
-/// Each publication is a batch of at most [`BATCH_EVENTS`] events, perhaps empty.
+/// The initial state of a script's unit, and its publications in order, which a log keeps with what is expected. Each
+/// publication is a batch of at most [`BATCH_EVENTS`] events, perhaps empty.
 #[derive(Drop)]
 pub struct Script<'a> {
     size: Size,
@@ -65,10 +65,10 @@ pub struct Script<'a> {
     events: &'a [Event],
     /// The line of each event.
     lines: &'a [u64],
-    /// How many events are published with each publication and those before it.
+    /// For each publication, how many events are published with it and those before it.
     ends: &'a [usize],
     expectations: &'a [Expectation],
-    /// None where the version names none.
+    /// None if the version has no names.
     marks: Option<&'a [Mark]>,
 }
 
@@ -91,7 +91,7 @@ impl<'a> Model for Script<'a> {
     ghost invariant = { λ script. AreCut script.ends.now (length script.events.now) (length script.lines.now) };
 }
 
-/// The size that has room for a register file's entries.
+/// Returns the size that has room for a register file's entries.
 fn shown_size(file: &RegFile) -> Size
     ensures { result ≡ size_for file.now }
 {
@@ -102,7 +102,7 @@ fn shown_size(file: &RegFile) -> Size
     }
 }
 
-/// How many events the first so many publications have.
+/// Returns how many events the given number of first publications have.
 fn end_of(ends: &[usize], publications: usize) -> usize
     requires { publications ≤ length ends.now }
     ensures { result ≡ last_end 0 (take publications ends.now) }
@@ -113,7 +113,7 @@ fn end_of(ends: &[usize], publications: usize) -> usize
     ends[publications - 1]
 }
 
-/// How many events come before the publication with this index, and how many with it.
+/// Returns how many events come before the publication with this index, and how many up to its end.
 fn bounds_of(ends: &[usize], index: usize) -> (usize, usize)
     requires index { index < length ends.now }
     requires ascending { AreEnds 0 ends.now }
@@ -127,7 +127,7 @@ fn bounds_of(ends: &[usize], index: usize) -> (usize, usize)
 }
 
 impl<'a> Script<'a> {
-    /// The script that a log keeps, all of whose events are published; with names of moments where its version has
+    /// Returns the script that a log keeps, all of whose events are published; with names of moments if its version has
     /// them.
     pub(crate) fn new<L: EventLog>(
         size: Size,
@@ -156,29 +156,29 @@ impl<'a> Script<'a> {
         }
     }
 
-    /// The size of the unit that the script is for; of a hart with another number of entries the one that has room for
-    /// them.
+    /// Returns the size of the unit that the script is for; for a hart with another number of entries, the size with
+    /// room for them.
     pub fn size(&self) -> Size
         ensures { result ≡ self.now.size }
     {
         self.size
     }
 
-    /// The register file before the first event.
+    /// Returns the register file before the first event.
     pub fn start(&self) -> RegFile
         ensures { result ≡ self.now.start }
     {
         self.start
     }
 
-    /// What is expected of registers, in the order of lines.
+    /// Returns what is expected of registers, in the order of lines.
     pub fn expectations(&self) -> &[Expectation]
         ensures { result.now ≡ self.now.expectations }
     {
         self.expectations
     }
 
-    /// The moments that words may say of it. From when on a bit of `mseccfg` lasts it doesn't tell.
+    /// Returns the moments that words may name, without those from which a bit of `mseccfg` lasts.
     pub fn moments(&self) -> Moments<'a>
         ensures { result ≡ moments_in self.now }
     {
@@ -189,21 +189,21 @@ impl<'a> Script<'a> {
         }
     }
 
-    /// How many publications there are.
+    /// Returns how many publications there are.
     pub fn batches(&self) -> u64
         ensures { result ≡ length self.now.batches }
     {
         self.ends.len() as u64
     }
 
-    /// All events, those of each publication behind those of the ones before it.
+    /// Returns all events, those of each publication after those of the previous ones.
     pub fn events(&self) -> &[Event]
         ensures { result.now ≡ joined self.now.batches }
     {
         self.events
     }
 
-    /// How many events the first so many publications have.
+    /// Returns how many events the given number of first publications have.
     pub fn events_before(&self, publications: u64) -> u64
         requires { publications ≤ length self.now.batches }
         ensures { result ≡ length (joined (take publications self.now.batches)) }
@@ -211,7 +211,7 @@ impl<'a> Script<'a> {
         end_of(self.ends, publications as usize) as u64
     }
 
-    /// The line of each event of the publication with this index, from 0. Lines are numbered from 1.
+    /// Returns the line of each event of the publication with this index, from 0. Lines are numbered from 1.
     pub fn lines(&self, index: u64) -> &[u64]
         requires { index < length self.now.batches }
         ensures { result.now ≡ slice_index_or self.now.lines index [] }
@@ -220,7 +220,7 @@ impl<'a> Script<'a> {
         &self.lines[start..end]
     }
 
-    /// The events of the publication with this index, from 0.
+    /// Returns the events of the publication with this index, from 0.
     pub fn batch(&self, index: u64) -> &[Event]
         requires { index < length self.now.batches }
         ensures events { result.now ≡ slice_index_or self.now.batches index [] }

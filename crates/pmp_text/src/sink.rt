@@ -1,11 +1,11 @@
-//! Where texts are appended: a vector that grows, or a room that may be full.
+//! The destinations of texts: a vector that grows, or a room that may become full.
 
 ghost use Rattle.std.specs.Prelude.{◌≡◌, ◌++◌, List, ℕ, OnErr, OnOk, length, take};
 
 use arrayvec::ArrayVec;
 use std::alloc::AllocError;
 
-/// What a text is appended to: a vector that grows, or a room that may be full.
+/// A destination of texts: a vector that grows, or a room that may become full.
 pub trait Sink {
     ghost text: { Self → List ℕ };
 
@@ -14,11 +14,11 @@ pub trait Sink {
         ensures ok { OnOk result (text self.new ≡ text self.old ++ bytes.now) }
         ensures err { OnErr result (text self.new ≡ text self.old) };
 
-    /// How many bytes the text has.
+    /// Returns how many bytes the text has.
     fn position(&self) -> usize
         ensures { result ≡ length (text self.now) };
 
-    /// Takes back what stands behind so many bytes.
+    /// Removes everything after the first `position` bytes.
     fn go_back(&mut self, position: usize)
         ensures { text self.new ≡ take position (text self.old) };
 }

@@ -23,7 +23,7 @@ use std::alloc::{AllocError, AllocFailed};
 pub struct Row {
     pub after: u64,
     pub access: Access,
-    /// Whether the start is 14 digits without `0x`: a decimal number, where rows mean hexadecimal.
+    /// Whether the start is 14 digits without `0x`: a decimal number, though rows write hexadecimal.
     pub is_bare: bool,
 }
 
@@ -31,11 +31,11 @@ pub struct Row {
 #[derive(Clone, Copy, Debug, PartialEq, Eq)]
 pub struct TraceFault {
     pub kind: TraceKind,
-    /// The row, counted from 1 behind the header, or 0 where the fault is of no row: `BadHeader`, `TooLong`, `Memory`
-    /// and `Input`.
+    /// The row, counted from 1 after the header, or 0 if the fault is of no row: `BadHeader`, `TooLong`, `Memory` and
+    /// `Input`.
     pub row: u64,
-    /// The field of the row, counted from 0, or none where the whole row is at fault. In a policy `from` is 0, be there
-    /// names or not.
+    /// The field of the row, counted from 0, or none if the whole row is at fault. In a policy `from` is 0, with or
+    /// without names.
     pub field: Option<usize>,
 }
 

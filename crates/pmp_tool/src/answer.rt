@@ -1,4 +1,4 @@
-//! What the program answers a command.
+//! The program's answers to commands.
 
 ghost use Rattle.std.specs.Prelude.{◌≡◌, IfOk, IfErr, List, ℕ, Option};
 ghost use Rattle.pmp_tool.specs.Inputs.{AreBytesOf, Inputs};
@@ -30,7 +30,7 @@ use std::io::Write;
 use std::sync::Wait;
 use std::thread::Threads;
 
-/// Reads the inputs of a command, and does what it asks for.
+/// Reads the inputs of a command, and executes it.
 pub fn answer<R: Threads + Wait + Sync, I: Inputs, O: Write>(
     rt: &R,
     alloc: Global,
@@ -49,7 +49,7 @@ pub fn answer<R: Threads + Wait + Sync, I: Inputs, O: Write>(
     answer_request(rt, alloc, &script, command.request, inputs, out)
 }
 
-/// Does what is asked for of a script.
+/// Executes a request about a script.
 fn answer_request<R: Threads + Wait + Sync, I: Inputs, O: Write>(
     rt: &R,
     alloc: Global,
@@ -89,7 +89,7 @@ fn has_names(script: &[u8]) -> bool
     script.len() <= MAX_HEADED_SCRIPT && is_headed(script)
 }
 
-/// Refuses the word of an argument that names a moment where the script's version names none.
+/// Refuses the word of an argument that names a moment if the script's version has no names.
 fn allow_name(script: &[u8], argument: Argument, after: Option<When>) -> Result<(), FaultLine>
     ensures { result ≡ name_allowed script.now argument after }
 {
@@ -116,7 +116,7 @@ fn answer_check<O: Write>(
     Ok(Outcome::Decided(decision, asked))
 }
 
-/// Says why an access is decided as it is.
+/// Explains why an access is decided as it is.
 fn answer_why<O: Write>(
     alloc: Global,
     script: &[u8],
@@ -133,7 +133,7 @@ fn answer_why<O: Write>(
     Ok(Outcome::Explained(decision, asked.is_bare))
 }
 
-/// Writes what is found in the script.
+/// Writes the findings in the script.
 fn answer_lint<O: Write>(
     alloc: Global,
     script: &[u8],
@@ -152,7 +152,7 @@ fn answer_lint<O: Write>(
     Ok(Outcome::Found(told as u64))
 }
 
-/// Shows something of a register file.
+/// Shows a view of a register file.
 fn answer_show<O: Write>(
     alloc: Global,
     script: &[u8],
@@ -170,7 +170,7 @@ fn answer_show<O: Write>(
     Ok(Outcome::Listed)
 }
 
-/// Audits a trace that is taken whole.
+/// Audits a trace that is read as a whole.
 fn answer_audit<R: Threads + Wait + Sync, I: Inputs, O: Write>(
     rt: &R,
     alloc: Global,
@@ -287,7 +287,7 @@ fn answer_import<I: Inputs, O: Write>(
     Ok(Outcome::Imported(note))
 }
 
-/// What is said of the hart, and what the note says of that.
+/// Returns the description of the hart, and what the note reports about it.
 fn given_of<I: Inputs>(
     alloc: Global,
     asked: Import<'_>,
@@ -309,7 +309,7 @@ fn given_of<I: Inputs>(
     Ok((given, Note::Guessed(given.hart, given.entries, survey.left)))
 }
 
-/// The bytes of a command's script, of which an import has none.
+/// Returns the bytes of a command's script; an import has none.
 fn script_of<I: Inputs>(
     alloc: Global,
     inputs: &mut I,
@@ -328,7 +328,7 @@ fn script_of<I: Inputs>(
     script_at(inputs, command.script, old_side(command.request))
 }
 
-/// Which side the command's script is on, where there are two.
+/// Returns the side of the command's script, if there are two.
 pub fn old_side(request: Request<'_>) -> Option<Side>
     ensures { result ≡ old_side request.entry }
 {
@@ -338,7 +338,7 @@ pub fn old_side(request: Request<'_>) -> Option<Side>
     }
 }
 
-/// The bytes of the script at the path, which of two scripts is the one on a side.
+/// Returns the bytes of the script at the path, which is on this side if there are two.
 fn script_at<I: Inputs>(inputs: &mut I, path: &str, side: Option<Side>) -> Result<Vec<u8>, Failure>
     ensures read { IfOk result (λ bytes. AreBytesOf (I.scripts inputs.old path.now) bytes.items) }
     ensures unread { IfErr result (IsUnread (I.scripts inputs.old path.now) side) }

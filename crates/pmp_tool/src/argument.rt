@@ -12,11 +12,11 @@ use clap::{Arg, ArgAction, value_parser};
 use pmp_share::CHECKERS;
 use std::alloc::Global;
 
-/// An argument of a command: a word in its place, or an option.
+/// An argument of a command: a positional word, or an option.
 #[derive(Clone, Copy)]
 pub enum Argument {
     Script,
-    /// The script, where there are two.
+    /// The script, if there are two.
     Old,
     New,
     Trace,
@@ -64,7 +64,7 @@ pub enum Argument {
 }
 
 impl Argument {
-    /// The id by which `clap` knows it.
+    /// Returns the id by which `clap` knows it.
     #[tactic(auto, unfolding(crate::specs::Arguments::rule_in))]
     pub fn id<'a>(self) -> &'a str
         ensures { result.now ≡ id_of self }
@@ -111,7 +111,7 @@ impl Argument {
         }
     }
 
-    /// Its name in the help, where it has a word.
+    /// Returns its name in the help, if it takes a word.
     pub fn name<'a>(self) -> &'a str {
         use Argument::*;
         match self {
@@ -142,7 +142,7 @@ impl Argument {
         }
     }
 
-    /// What the help says of it.
+    /// Returns its help text.
     fn help<'a>(self) -> &'a str {
         use Argument::*;
         match self {
@@ -190,7 +190,7 @@ impl Argument {
         }
     }
 
-    /// How `clap` reads it, and what the help says of it.
+    /// Returns how `clap` reads it, with its help text.
     #[tactic(auto, unfolding(crate::specs::Arguments::rule_in))]
     pub fn arg<'a>(self, alloc: Global) -> Arg<'a>
         ensures rule { rule_of result ≡ rule_in self }
@@ -236,7 +236,7 @@ impl Argument {
         }
     }
 
-    /// What its word has to be, where not every word will do.
+    /// Returns what its word must be, if not every word will do.
     pub fn wanted(self) -> &'static str {
         match self {
             Argument::After | Argument::OldAfter | Argument::NewAfter => {
@@ -263,7 +263,7 @@ impl Argument {
     }
 }
 
-/// A word that its command requires, taken as text.
+/// Returns a word that its command requires, taken as text.
 fn word<'a>(alloc: Global, id: &'a str, name: &'a str, help: &'a str) -> Arg<'a>
     ensures rule { rule_of result ≡ word_rule id.entry.now }
     ensures local { result.global ≡ false }
@@ -274,7 +274,7 @@ fn word<'a>(alloc: Global, id: &'a str, name: &'a str, help: &'a str) -> Arg<'a>
         .required(true)
 }
 
-/// `--id name`, taken as text.
+/// Returns `--id name`, taken as text.
 fn option<'a>(alloc: Global, id: &'a str, name: &'a str, help: &'a str) -> Arg<'a>
     ensures rule { rule_of result ≡ option_rule id.entry.now }
     ensures local { result.global ≡ false }
@@ -282,7 +282,7 @@ fn option<'a>(alloc: Global, id: &'a str, name: &'a str, help: &'a str) -> Arg<'
     Arg::new(alloc, id).long(id).value_name(name).help(help)
 }
 
-/// `--id`, without a word of its own.
+/// Returns `--id`, without a word of its own.
 fn flag<'a>(alloc: Global, id: &'a str, help: &'a str) -> Arg<'a>
     ensures rule { rule_of result ≡ flag_rule id.entry.now }
     ensures local { result.global ≡ false }
@@ -293,7 +293,7 @@ fn flag<'a>(alloc: Global, id: &'a str, help: &'a str) -> Arg<'a>
         .help(help)
 }
 
-/// `--id name`, a number from 1 to `most`.
+/// Returns `--id name`, a number from 1 to `most`.
 fn count<'a>(alloc: Global, id: &'a str, name: &'a str, most: u8, help: &'a str) -> Arg<'a>
     ensures rule { rule_of result ≡ count_rule id.entry.now most }
     ensures local { result.global ≡ false }
@@ -301,7 +301,7 @@ fn count<'a>(alloc: Global, id: &'a str, name: &'a str, most: u8, help: &'a str)
     option(alloc, id, name, help).value_parser(from_one(most))
 }
 
-/// Reads a number from 1 to `most`.
+/// Returns a parser of numbers from 1 to `most`.
 fn from_one<'a>(most: u8) -> ValueParser<'a>
     ensures { result ≡ Signed (pos 1) (pos most) }
 {

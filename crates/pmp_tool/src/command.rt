@@ -1,4 +1,4 @@
-//! What the program's words ask for.
+//! The request that the program's words make.
 
 ghost use Rattle.std.specs.Prelude.{◌≡◌, map, option_map};
 ghost use Rattle.clap.specs.Words.{found_of, rows_of, subcommand_rows_of};
@@ -26,7 +26,7 @@ use pmp_plan::Form;
 use pmp_share::CHECKERS;
 use pmp_text::Refusal;
 
-/// What the program's words ask for.
+/// The request that the program's words make.
 #[derive(Clone, Copy)]
 pub struct Command<'a> {
     /// The path of the script.
@@ -43,7 +43,7 @@ fn read_name(word: &str) -> Option<CommandName>
         .find(|name| name.word() == word)
 }
 
-/// The subcommand that `clap` found in the words, and what it found for it.
+/// Returns the subcommand that `clap` found in the words, and its matches.
 fn found<'b, 'a>(matches: &'b ArgMatches<'a>) -> Option<(&'a str, &'b ArgMatches<'a>)>
     ensures { option_map (λ found. (found.0.now, rows_of (found_of found.1.now))) result
         ≡ subcommand_rows_of matches.now }
@@ -51,7 +51,7 @@ fn found<'b, 'a>(matches: &'b ArgMatches<'a>) -> Option<(&'a str, &'b ArgMatches
     matches.subcommand()
 }
 
-/// The path of the names of addresses, where the words ask for names.
+/// Returns the path of the names of addresses, if the words ask for names.
 pub fn names_path<'a>(matches: &ArgMatches<'a>) -> Option<&'a str>
     ensures { option_map (λ path. path.now) result ≡ names_path_in (subcommand_rows_of matches.now) }
 {
@@ -59,7 +59,7 @@ pub fn names_path<'a>(matches: &ArgMatches<'a>) -> Option<&'a str>
     word(words, Argument::Names)
 }
 
-/// What the subcommand that `clap` found in the words asks for, where addresses have these names.
+/// Returns the request of the subcommand that `clap` found in the words, given these names of addresses.
 #[tactic(auto, unfolding(crate::specs::Commands::asked_of))]
 pub fn read_command<'a>(
     matches: &ArgMatches<'a>,
@@ -74,7 +74,7 @@ pub fn read_command<'a>(
     Ok(Command { script, request })
 }
 
-/// What the command with this name asks for of the script.
+/// Returns what the command with this name requests about the script.
 fn read_request<'a>(
     name: CommandName,
     words: &ArgMatches<'a>,
@@ -101,14 +101,14 @@ fn read_request<'a>(
     }
 }
 
-/// The path in a place that its command requires.
+/// Returns the path in an argument that its command requires.
 fn path<'a>(words: &ArgMatches<'a>, argument: Argument) -> Result<&'a str, FaultLine>
     ensures { result_map (λ path. path.now) result ≡ path_in argument (rows_of (found_of words.now)) }
 {
     word(words, argument).ok_or(FaultLine::of_word(argument))
 }
 
-/// The path of the second input, after the script's. Only one of two inputs can be standard input.
+/// Returns the path of the second input, after the script's. Only one of two inputs can be standard input.
 fn second<'a>(words: &ArgMatches<'a>, argument: Argument) -> Result<&'a str, FaultLine>
     ensures { result_map (λ path. path.now) result ≡ second_in argument (rows_of (found_of words.now)) }
 {
@@ -146,7 +146,7 @@ fn read_why<'a>(words: &ArgMatches, names: &[AddressName<'_>]) -> Result<Request
     }))
 }
 
-/// The address that the word START says, as a number or by a name.
+/// Returns the address in the word START, a number or a name.
 fn read_start(words: &ArgMatches, names: &[AddressName<'_>]) -> Result<u64, FaultLine>
     ensures { result ≡ start_in (map named names.now) (rows_of (found_of words.now)) }
 {
@@ -154,7 +154,7 @@ fn read_start(words: &ArgMatches, names: &[AddressName<'_>]) -> Result<u64, Faul
     read_address(names, word.as_bytes()).ok_or(FaultLine::of_word(Argument::Start))
 }
 
-/// The access that four words describe. All words are read before the access is made.
+/// Returns the access that four words describe. All words are read before the access is made.
 fn read_access(words: &ArgMatches, names: &[AddressName<'_>]) -> Result<Access, FaultLine>
     ensures { result_map access_task result ≡ access_in (map named names.now) (rows_of (found_of words.now)) }
 {
@@ -176,7 +176,7 @@ fn read_audit<'a>(words: &ArgMatches<'a>) -> Result<Request<'a>, FaultLine>
     }
 }
 
-/// An audit of a trace that is taken whole.
+/// Returns an audit of a trace that is read as a whole.
 fn read_whole_audit<'a>(words: &ArgMatches, trace: &'a str) -> Result<Request<'a>, FaultLine>
     ensures { result_map task_of result ≡ whole_audit_in trace.now (rows_of (found_of words.now)) }
 {
@@ -187,7 +187,7 @@ fn read_whole_audit<'a>(words: &ArgMatches, trace: &'a str) -> Result<Request<'a
     Ok(Request::Audit(Audit { trace, checkers }))
 }
 
-/// An audit of a trace that is taken piece by piece: row 1 is its first where the words don't say it.
+/// Returns an audit of a trace that is read piece by piece: its first row is row 1 unless the words say otherwise.
 fn read_long_audit<'a>(words: &ArgMatches, trace: &'a str) -> Result<Request<'a>, FaultLine>
     ensures { result_map task_of result ≡ long_audit_in trace.now (rows_of (found_of words.now)) }
 {
@@ -211,7 +211,7 @@ fn read_policy<'a>(words: &ArgMatches<'a>) -> Result<Request<'a>, FaultLine>
     Ok(Request::Policy(policy, pace))
 }
 
-/// What is shown of the script, after all publications where the words don't say when.
+/// Returns a view of the script, after all publications unless the words say when.
 fn read_show<'a>(view: View, words: &ArgMatches) -> Result<Request<'a>, FaultLine>
     ensures { result_map task_of result ≡ show_in view (rows_of (found_of words.now)) }
 {
@@ -256,7 +256,7 @@ fn read_plan<'a>(words: &ArgMatches) -> Result<Request<'a>, FaultLine>
     }))
 }
 
-/// The plan of a script, whose hart and `mseccfg` are the script's own.
+/// Returns the plan of a script, whose hart and `mseccfg` are the script's own.
 fn read_plan_of<'a>(words: &ArgMatches) -> Result<Request<'a>, FaultLine>
     ensures { result_map task_of result ≡ plan_of_in (rows_of (found_of words.now)) }
 {
@@ -279,7 +279,7 @@ fn read_format(words: &ArgMatches) -> Result<Format, FaultLine>
     }
 }
 
-/// What is asked for of a hart of this XLEN and these numbers.
+/// Returns the options for a hart with this XLEN and these numbers.
 fn read_options_with(
     words: &ArgMatches,
     xlen: Option<Xlen>,
@@ -311,8 +311,8 @@ fn read_options(words: &ArgMatches) -> Result<Options, FaultLine>
     read_options_with(words, xlen, hart, entries)
 }
 
-/// The path of the folder for the scripts of all harts: none of them is asked for then, and the log is read several
-/// times.
+/// Returns the path of the folder for the scripts of all harts: no single hart is then asked for, and the log is read
+/// several times.
 fn read_folder<'a>(
     words: &ArgMatches<'a>,
     log: &str,

@@ -10,7 +10,7 @@ use crate::{help, topics};
 use clap::{ArgMatches, Command, Error};
 use std::alloc::{AllocError, Global};
 
-/// What `clap` makes of the program's words, those after its own name.
+/// Parses the program's words, those after its own name, with `clap`.
 pub fn parse_words<'a>(alloc: Global, words: &'a [String]) -> Result<ArgMatches<'a>, Error>
     ensures ok { IfOk result (IsTaken (map string_bytes words.entry.now)) }
     ensures err { IfErr result (HasKind (fault_of pmp_app (map string_bytes words.entry.now))) }
@@ -18,10 +18,10 @@ pub fn parse_words<'a>(alloc: Global, words: &'a [String]) -> Result<ArgMatches<
     pmp(alloc)?.try_get_matches_from(words)
 }
 
-/// A command, where there was memory for all its parts.
+/// A command, if there was memory for all its parts.
 type Built<'a> = Result<Command<'a>, AllocError>;
 
-/// The program, with its commands and a topic of help for each format.
+/// Returns the program, with its commands and a help topic for each format.
 fn pmp<'a>(alloc: Global) -> Built<'a>
     ensures { IsBuilt result pmp_app }
 {
@@ -31,7 +31,7 @@ fn pmp<'a>(alloc: Global) -> Built<'a>
         .subcommand(topic(alloc, "rows", topics::ROWS))
 }
 
-/// A topic of help, whose text `help name` answers. As a command it is refused, by the same text where it stands alone.
+/// Returns a help topic, whose text `help name` shows. As a command it is refused, with the same text if it is alone.
 fn topic<'a>(alloc: Global, name: &'a str, text: &'a str) -> Command<'a>
     ensures { IsCommand result (topic_app name.entry.now) }
 {
@@ -41,7 +41,7 @@ fn topic<'a>(alloc: Global, name: &'a str, text: &'a str) -> Command<'a>
         .override_help(text)
 }
 
-/// The program, with a subcommand for each thing that it does.
+/// Returns the program, with a subcommand for each thing that it does.
 fn commands<'a>(alloc: Global) -> Built<'a>
     ensures { IsBuilt result commands_app }
 {
@@ -52,7 +52,7 @@ fn commands<'a>(alloc: Global) -> Built<'a>
     Ok(program)
 }
 
-/// The program without its commands.
+/// Returns the program without its commands.
 fn top<'a>(alloc: Global) -> Built<'a>
     ensures { IsBuilt result top_app }
 {
@@ -64,7 +64,7 @@ fn top<'a>(alloc: Global) -> Built<'a>
     program.bin_name("pmp")
 }
 
-/// A command with its arguments.
+/// Returns a command with its arguments.
 fn command<'a>(alloc: Global, name: CommandName) -> Built<'a>
     ensures { IsBuilt result (command_app name) }
 {
@@ -76,7 +76,7 @@ fn command<'a>(alloc: Global, name: CommandName) -> Built<'a>
     Ok(command)
 }
 
-/// A command without words.
+/// Returns a command without words.
 fn named<'a>(alloc: Global, name: &'a str, about: &'a str, more: &'a str) -> Command<'a>
     ensures { IsCommand result (new_app name.entry.now) }
 {

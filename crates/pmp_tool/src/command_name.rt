@@ -6,7 +6,7 @@ ghost use Rattle.pmp_tool.specs.Arguments.{arguments_of, command_word};
 use crate::argument::Argument;
 use crate::{help, topics};
 
-/// What the program does.
+/// A command of the program.
 #[derive(Clone, Copy)]
 pub enum CommandName {
     Check,
@@ -44,7 +44,7 @@ impl CommandName {
         CommandName::Plan,
     ];
 
-    /// The word that names it.
+    /// Returns the word that names it.
     pub fn word<'a>(self) -> &'a str
         ensures { result.now ≡ command_word self }
     {
@@ -66,7 +66,7 @@ impl CommandName {
         }
     }
 
-    /// What the help says of it in a line.
+    /// Returns its help text of one line.
     pub fn about<'a>(self) -> &'a str {
         match self {
             CommandName::Check => help::CHECK,
@@ -86,7 +86,7 @@ impl CommandName {
         }
     }
 
-    /// What the help says behind its arguments.
+    /// Returns its help text after the arguments.
     pub fn more<'a>(self) -> &'a str {
         match self {
             CommandName::Check => topics::MORE_OF_CHECK,
@@ -106,7 +106,7 @@ impl CommandName {
         }
     }
 
-    /// Its arguments, in the order of the help.
+    /// Returns its arguments, in the order of the help.
     pub fn arguments(self) -> &'static [Argument]
         ensures { result.now ≡ arguments_of self }
     {

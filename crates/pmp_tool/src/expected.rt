@@ -1,11 +1,11 @@
-//! Which answer to a check is expected.
+//! The expected answer to a check.
 
 ghost use Rattle.std.specs.Prelude.{◌≡◌};
 ghost use Rattle.pmp_tool.specs.Expected.{is_met};
 
 use pmp_core::Decision;
 
-/// The answer that the exit status is 0 for.
+/// The answer for which the exit status is 0.
 #[derive(Clone, Copy)]
 pub enum Expected {
     Allow,

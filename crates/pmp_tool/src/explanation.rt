@@ -1,4 +1,4 @@
-//! The explanation of a refusal, where the words ask for one: where the fault is, what was wanted, what to do.
+//! The explanation of a refusal, if the words ask for one: where the fault is, what was wanted, and what to do.
 
 ghost use Rattle.std.specs.Prelude.{◌≡◌, ℕ, List, map, string_bytes};
 ghost use Rattle.std.specs.List.{list_any};
@@ -44,8 +44,8 @@ pub fn asks_to_explain(words: &[String]) -> bool
     words.iter().any(|word| is_explain(word.as_str()))
 }
 
-/// Writes what a user reads of the failure, and behind it an explanation where the words ask for one. Where the first
-/// isn't written wholly there is no second.
+/// Writes the text of the failure for the user, and after it an explanation if the words ask for one. If the first
+/// isn't written completely there is no second.
 pub fn tell_and_explain<I: Inputs, E: Write>(
     alloc: Global,
     words: &[String],
@@ -61,7 +61,7 @@ pub fn tell_and_explain<I: Inputs, E: Write>(
     }
 }
 
-/// Writes the explanation of a refusal, as far as there is memory for it and the writer takes it.
+/// Writes the explanation of a refusal, as far as memory lasts and the writer takes it.
 fn explain<E: Write>(alloc: Global, words: &[String], failure: &Failure, kept: &Kept, err: &mut E)
     ensures { (text : List ℕ) × AppendsBeginning (E.contents err.old) (E.contents err.new) text }
 {
@@ -73,7 +73,7 @@ fn explain<E: Write>(alloc: Global, words: &[String], failure: &Failure, kept: &
     }
 }
 
-/// Where the fault is, what was wanted there, and what to do.
+/// Returns where the fault is, what was wanted there, and what to do.
 fn explanation(
     alloc: Global,
     words: &[String],
@@ -105,7 +105,7 @@ fn write_explanation(
     write_remedy(text, line, in_input || in_word)
 }
 
-/// Names the input that is at fault and shows its line: whether an address is at fault there as the program writes it.
+/// Names the faulty input and shows its line; returns whether an address in the program's output form is at fault.
 fn write_spot(text: &mut String, line: &FaultLine, kept: &Kept) -> Result<bool, AllocError> {
     let Some(input) = input_of(line, kept) else {
         return Ok(false);
@@ -119,7 +119,7 @@ fn write_spot(text: &mut String, line: &FaultLine, kept: &Kept) -> Result<bool, 
     Ok(is_bare_address(spot.marked()))
 }
 
-/// Shows the word that is at fault: whether it is an address as the program writes it.
+/// Shows the faulty word; returns whether it is an address in the program's output form.
 fn write_asked_word(
     alloc: Global,
     text: &mut String,
@@ -149,7 +149,7 @@ fn write_remedy(
     Ok(writeln!(text, "to do: {remedy}")?)
 }
 
-/// What to do with an address as the program writes it.
+/// What to do about an address in the program's output form.
 const WITH_PREFIX: &str =
     "put 0x before the address: pmp writes its 14 digits without it, and reads them with it";
 
@@ -157,7 +157,7 @@ fn is_new(place: Place) -> bool {
     matches!(place, Place::Script(Side::New))
 }
 
-/// Whether what is at fault has to be a byte address.
+/// Whether a byte address is required at the fault.
 fn is_address(place: Place) -> bool {
     match place {
         Place::Word(argument) => matches!(argument, Argument::Start),
@@ -169,12 +169,12 @@ fn is_address(place: Place) -> bool {
     }
 }
 
-/// Whether an address stands there as the program writes it: 14 hexadecimal digits.
+/// Whether it is an address in the program's output form: 14 hexadecimal digits.
 fn is_bare_address(word: &[u8]) -> bool {
     word.len() == 14 && word.iter().all(|byte| byte.is_ascii_hexdigit())
 }
 
-/// Says what was wanted: of a word or a field that isn't of its form, that form.
+/// Writes what was wanted: for a malformed word or field, its form.
 fn write_wanted(text: &mut String, line: &FaultLine) -> Result<(), AllocError> {
     if let (Refusal::BadWord, Place::Word(argument)) = (line.refusal, line.place) {
         let (name, form) = (argument.name(), argument.wanted());
@@ -184,7 +184,7 @@ fn write_wanted(text: &mut String, line: &FaultLine) -> Result<(), AllocError> {
     Ok(writeln!(text, "wanted: {wanted}")?)
 }
 
-/// The form of the field that isn't of its form.
+/// Returns the form of the malformed field.
 fn wanted_field(line: &FaultLine) -> Option<&'static str> {
     match (line.refusal, line.place) {
         (Refusal::BadRow, Place::TraceRow(fault)) => trace_field(fault.field?),
@@ -200,7 +200,7 @@ fn wanted_field(line: &FaultLine) -> Option<&'static str> {
     }
 }
 
-/// The input that is at fault.
+/// Returns the input that is at fault.
 fn input_of<'a>(line: &FaultLine, kept: &'a Kept) -> Option<&'a KeptInput> {
     match (line.place, line.refusal) {
         (Place::ScriptLine(_) | Place::Script(Side::Old) | Place::LineOf(Side::Old, _), _) => {
@@ -220,7 +220,7 @@ fn input_of<'a>(line: &FaultLine, kept: &'a Kept) -> Option<&'a KeptInput> {
     }
 }
 
-/// The line at fault, where one is.
+/// Returns the line at fault, if there is one.
 fn spot_of<'a>(line: &FaultLine, input: &'a KeptInput) -> Option<Spot<'a>> {
     match line.place {
         Place::ScriptLine(fault) | Place::LineOf(_, fault) => {
@@ -251,7 +251,7 @@ fn write_input(text: &mut String, path: &str) -> Result<(), AllocError> {
     text.push('\n')
 }
 
-/// Says how many publications a script has.
+/// Writes how many publications a script has.
 fn write_count(alloc: Global, text: &mut String, input: &KeptInput) -> Result<(), AllocError> {
     let Some(count) = publications_of(alloc, &input.bytes) else {
         return Ok(());
@@ -261,7 +261,7 @@ fn write_count(alloc: Global, text: &mut String, input: &KeptInput) -> Result<()
     Ok(writeln!(text, ": {count}")?)
 }
 
-/// How many publications a script has, where it can be read.
+/// Returns how many publications a script has, if it can be read.
 fn publications_of(alloc: Global, script: &[u8]) -> Option<u64> {
     let mut log = GrowingLog::new(alloc);
     let script = read_script(&mut log, script).ok()?;

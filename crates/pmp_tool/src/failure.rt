@@ -1,4 +1,4 @@
-//! Why the program gives no answer, and the exit status of that.
+//! The reasons why the program gives no answer, and their exit statuses.
 
 ghost use Rattle.std.specs.Prelude.{◌≡◌, ◌≤◌, IfSome, OnOk};
 ghost use Rattle.std.specs.Io.KnownBytes.{Appends};
@@ -17,16 +17,16 @@ use pmp_text::{InputFault, OutputFault, Refusal};
 use std::alloc::AllocError;
 use std::io::Write;
 
-/// The exit status of words that have no form that the program knows.
+/// The exit status if the words have no form that the program knows.
 const UNKNOWN_WORDS: u8 = 2;
 
 /// Why the program gives no answer.
 #[derive(Drop)]
 pub enum Failure {
-    /// What `clap` says of the words.
+    /// The error of `clap` about the words.
     Words(clap::Error),
     Refused(FaultLine),
-    /// The same of the hart whose script has this name, of several.
+    /// A refusal that concerns the hart whose script has this name, one of several.
     OfHart(ArrayString<HART_NAME>, FaultLine),
 }
 
@@ -42,7 +42,7 @@ impl Failure {
         }
     }
 
-    /// Writes what a user reads of the failure, by one write where the writer takes it whole.
+    /// Writes the text of the failure for the user, in one write if the writer takes it whole.
     pub fn tell<W: Write>(&self, writer: &mut W) -> Result<(), OutputFault>
         ensures whole { OnOk result (IfSome (failure_text self.now)
             (Appends (W.contents writer.old) (W.contents writer.new))) }
@@ -55,7 +55,7 @@ impl Failure {
         }
     }
 
-    /// The line that tells of a refusal.
+    /// Returns the line that reports a refusal.
     pub fn line(&self) -> Option<&FaultLine> {
         match self {
             Failure::Words(_) => None,
@@ -63,7 +63,7 @@ impl Failure {
         }
     }
 
-    /// The same of an answer whose rows are kept in memory, which they may lack.
+    /// Returns the same for an answer whose rows are kept in memory, which may run out.
     pub fn in_memory(self) -> Failure
         ensures { result ≡ in_memory self }
     {
@@ -75,7 +75,7 @@ impl Failure {
         }
     }
 
-    /// The same of a hart of several.
+    /// Returns the same for one hart of several.
     pub fn of_hart(self, name: ArrayString<HART_NAME>) -> Failure
         ensures { result ≡ of_hart name self }
     {
@@ -85,7 +85,7 @@ impl Failure {
         }
     }
 
-    /// An input that can't be read: of two scripts, the one on a side.
+    /// Returns the failure of an unreadable input: of two scripts, the one on this side.
     pub fn unread(refusal: InputFault, side: Option<Side>) -> Failure
         ensures { result ≡ unread refusal side }
     {

@@ -1,4 +1,4 @@
-//! The line that tells of a refusal.
+//! The line that reports a refusal.
 
 ghost use Rattle.std.specs.Prelude.{◌≡◌, Some, OnOk, OnErr};
 ghost use Rattle.std.specs.Io.KnownBytes.{Appends};
@@ -22,12 +22,12 @@ use std::fmt;
 use std::fmt::Write as TextWrite;
 use std::io::Write;
 
-/// Where a fault is.
+/// The place of a fault.
 #[derive(Clone, Copy)]
 pub enum Place {
-    /// In no place that is known.
+    /// In no known place.
     Nowhere,
-    /// In a word of the command line, which the line doesn't tell.
+    /// In a word of the command line, which the line doesn't show.
     Word(Argument),
     /// In a line of the script, from 1.
     ScriptLine(ScriptFault),
@@ -47,12 +47,12 @@ pub enum Place {
     PlanRow(TraceFault),
     /// In two rows of the plan, from 1.
     PlanRows(u64, u64),
-    /// In the row of the plan that takes the most entries, of those that were found.
+    /// In the row of the plan that takes the most entries of those that were found.
     PlanEntries { row: u64, takes: u64, found: u64 },
 }
 
 impl Place {
-    /// Where this fault of an answer is.
+    /// Returns the place of this fault of an answer.
     pub fn of(fault: AuditFault) -> Place
         ensures { result ≡ place_of fault }
     {
@@ -68,7 +68,7 @@ impl Place {
         }
     }
 
-    /// Where this fault of an import is.
+    /// Returns the place of this fault of an import.
     pub fn of_log(fault: ImportFault) -> Place
         ensures { result ≡ place_in_log fault }
     {
@@ -81,7 +81,7 @@ impl Place {
 }
 
 impl Place {
-    /// Where this fault of names is.
+    /// Returns the place of this fault of names.
     pub fn of_names(fault: NamesFault) -> Place
         ensures { result ≡ place_in_names fault }
     {
@@ -94,7 +94,7 @@ impl Place {
 }
 
 impl Place {
-    /// Where this fault of a plan is.
+    /// Returns the place of this fault of a plan.
     pub fn of_plan(fault: PlanFault) -> Place
         ensures { result ≡ place_in_plan fault }
     {
@@ -121,7 +121,7 @@ impl Place {
     }
 }
 
-/// The number of a row, from 1.
+/// Returns the number of a row, from 1.
 fn number(index: usize) -> u64
     ensures { result ≡ next_row index }
 {
@@ -137,7 +137,7 @@ fn side_word(side: Side) -> &'static str
     }
 }
 
-/// What stands before the word `refused`.
+/// Shows the text before the word `refused`.
 impl fmt::Display for Place {
     ghost output = { λ place. Some (place_text place) };
 
@@ -161,10 +161,10 @@ impl fmt::Display for Place {
     }
 }
 
-/// The bytes of the longest line: its three numbers have 20 digits each, and the refusal's name 11 letters.
+/// The length of the longest line in bytes: its three numbers have 20 digits each, and the refusal's name 11 letters.
 const LONGEST_LINE: usize = 118;
 
-/// The bytes of the longest line that begins with a hart's name, a colon and a blank behind the program's.
+/// The length of the longest line that has a hart's name, a colon and a space after the program's name, in bytes.
 const LONGEST_OF_HART: usize = LONGEST_LINE + HART_NAME + 2;
 
 fn law_line_fits()
@@ -175,7 +175,7 @@ fn law_hart_line_fits()
     ensures { HartLineFitsLaw }
 {}
 
-/// The line that tells of a refusal.
+/// The line that reports a refusal.
 #[derive(Clone, Copy)]
 pub struct FaultLine {
     pub refusal: Refusal,
@@ -184,7 +184,7 @@ pub struct FaultLine {
 
 impl FaultLine {
     /// Writes the line and its LF. The writer gets it whole, so that no other program's text comes between its parts,
-    /// and it takes no memory.
+    /// and it allocates nothing.
     pub fn write_to<W: Write>(&self, writer: &mut W) -> Result<(), OutputFault>
         ensures ok { OnOk result (Appends (W.contents writer.old) (W.contents writer.new)
             (line_text self.now.refusal self.now.place)) }
@@ -197,7 +197,7 @@ impl FaultLine {
         write_out(writer, line.as_str().as_bytes())
     }
 
-    /// The same of a hart of several.
+    /// Writes the same for one hart of several.
     pub fn write_of_hart<W: Write>(
         &self,
         name: &ArrayString<HART_NAME>,
@@ -241,7 +241,7 @@ impl From<AccessFault> for FaultLine {
     }
 }
 
-/// What it says behind the program's name.
+/// Shows the text after the program's name.
 impl fmt::Display for FaultLine {
     ghost output = { λ line. Some (fault_text line.refusal line.place) };
 

@@ -9,7 +9,7 @@ use std::io::ErrorKind;
 use std::rt::Files;
 use std::{fs, io};
 
-/// Makes a folder with these scripts. It has its name when it is whole: it is written beside it, with `.part` behind its
+/// Creates a folder with these scripts. It gets its name once it is complete: until then `.part` is appended to the
 /// name.
 pub fn fill_folder<R: Files + AllocGlobal>(
     runtime: &R,
@@ -56,7 +56,7 @@ fn write_scripts<R: Files + AllocGlobal>(
     Ok(())
 }
 
-/// Why a folder can't be made.
+/// Returns why a folder can't be created.
 fn unmade(error: &io::Error) -> Refusal
     ensures { CantBeMade result }
 {

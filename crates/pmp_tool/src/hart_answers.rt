@@ -1,4 +1,4 @@
-//! What the program answers a command that is asked of each hart of a folder.
+//! The program's answers to a command that is asked of each hart of a folder.
 
 ghost use Rattle.std.specs.Prelude.{◌≡◌, [], IfErr, IfOk, Some, string_bytes, unwrap_or};
 ghost use Rattle.pmp_tool.specs.CommandAnswers.{CommandAnswers};
@@ -24,7 +24,7 @@ use std::io::Write;
 use std::sync::Wait;
 use std::thread::Threads;
 
-/// The path of a hart's script, where the path is that of a folder.
+/// Returns the path, extended to that of a hart's script if it is the path of a folder.
 pub fn path_on(alloc: Global, is_folder: bool, path: &str, name: &str) -> Result<String, AllocError>
     ensures { IfOk result (λ on. string_bytes on ≡ path_on is_folder path.now name.now) }
 {
@@ -36,7 +36,7 @@ pub fn path_on(alloc: Global, is_folder: bool, path: &str, name: &str) -> Result
     Ok(on)
 }
 
-/// The path of a hart's new script, where there is one.
+/// Returns the path of a hart's new script, if there is one.
 fn new_on(
     alloc: Global,
     harts: &Harts,
@@ -53,7 +53,7 @@ fn new_on(
 }
 
 impl<'a> Request<'a> {
-    /// The same of the new script at this path, where there is one.
+    /// Returns the same for the new script at this path, if there is one.
     fn with_new(self, new: &'a str) -> Request<'a>
         ensures { task_of result ≡ with_new new.now (task_of self.entry) }
     {
@@ -64,7 +64,7 @@ impl<'a> Request<'a> {
     }
 }
 
-/// Answers a command whose rows are kept in memory: what it did, and the rows.
+/// Answers a command whose rows are kept in memory, and returns what it did, and the rows.
 pub fn answer_apart<R: Threads + Wait + Sync, I: Inputs>(
     rt: &R,
     alloc: Global,
@@ -84,7 +84,7 @@ pub fn answer_apart<R: Threads + Wait + Sync, I: Inputs>(
     }
 }
 
-/// Answers a command of one hart, whose rows may be to have names behind them.
+/// Answers a command of one hart, whose rows may be followed by names.
 pub fn answer_one<R: Threads + Wait + Sync, I: Inputs, O: Write>(
     rt: &R,
     alloc: Global,
@@ -105,7 +105,7 @@ pub fn answer_one<R: Threads + Wait + Sync, I: Inputs, O: Write>(
     }
 }
 
-/// Answers a command of one hart, whose rows are to have names behind them.
+/// Answers a command of one hart, whose rows are followed by names.
 fn answer_named<R: Threads + Wait + Sync, I: Inputs, O: Write>(
     rt: &R,
     alloc: Global,
@@ -126,7 +126,7 @@ fn answer_named<R: Threads + Wait + Sync, I: Inputs, O: Write>(
     Ok(outcome)
 }
 
-/// Answers a command of one hart of a folder: what it did, and the rows.
+/// Answers a command of one hart of a folder, and returns what it did, and the rows.
 fn answer_alone<R: Threads + Wait + Sync, I: Inputs>(
     rt: &R,
     alloc: Global,
@@ -148,7 +148,7 @@ fn answer_alone<R: Threads + Wait + Sync, I: Inputs>(
     }
 }
 
-/// Answers a command of one hart of a folder, and appends the rows behind its name.
+/// Answers a command of one hart of a folder, and appends the rows, each after the hart's name.
 fn answer_on<R: Threads + Wait + Sync, I: Inputs>(
     rt: &R,
     alloc: Global,

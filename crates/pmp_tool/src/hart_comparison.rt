@@ -19,21 +19,21 @@ use std::io::Write;
 use std::sync::Wait;
 use std::thread::Threads;
 
-/// Whether the harts of a folder are to be compared with each other.
+/// Whether the harts of a folder are compared with each other.
 fn compares_harts(request: Request<'_>) -> bool
     ensures { result ≡ compares_harts request.entry }
 {
     matches!(request, Request::Harts(_))
 }
 
-/// Whether their locks are to be compared too.
+/// Whether their locks are compared too.
 fn compares_locks(request: Request<'_>) -> bool
     ensures { result ≡ compares_locks request.entry }
 {
     matches!(request, Request::Harts(true))
 }
 
-/// Answers a command that is asked of the harts of a folder.
+/// Answers a command about the harts of a folder.
 pub fn answer_folder<R: Threads + Wait + Sync, I: Inputs, O: Write>(
     rt: &R,
     alloc: Global,

@@ -1,4 +1,4 @@
-//! The scripts of all harts of a log, in a folder that is made for them.
+//! The scripts of all harts of a log, in a new folder.
 
 ghost use Rattle.std.specs.Prelude.{◌≡◌, ◌++◌, ◌∷◌, [], IfErr, IfOk, OnOk, option_map};
 ghost use Rattle.pmp_tool.specs.HartImports.{AddsHart, AreOf, CantMake, IsFound, IsUnfound, Makes, OneFails, new_folder};
@@ -18,7 +18,7 @@ use std::alloc::{AllocError, Global};
 use std::sync::Wait;
 use std::thread::Threads;
 
-/// The folder that a request makes, and of which log.
+/// Returns the folder that a request creates, and the log to read.
 pub fn new_folder<'a>(request: Request<'a>) -> Option<(Import<'a>, &'a str)>
     ensures { option_map (λ both. (both.0, both.1.now)) result ≡ new_folder request.entry }
 {
@@ -28,7 +28,7 @@ pub fn new_folder<'a>(request: Request<'a>) -> Option<(Import<'a>, &'a str)>
     }
 }
 
-/// What the log at a path has, where no hart is asked for.
+/// Returns the survey of the log at a path, if no hart is asked for.
 fn survey_at<I: Inputs>(
     alloc: Global,
     path: &str,
@@ -76,7 +76,7 @@ fn keep(all: &mut Vec<HartScript>, script: HartScript) -> Result<(), AllocError>
     all.push(script).map_err(|_| AllocError)
 }
 
-/// The scripts of the harts that have writes.
+/// Returns the scripts of the harts that have writes.
 fn import_each<R: Threads + Wait + Sync, I: Inputs>(
     rt: &R,
     alloc: Global,
@@ -104,7 +104,7 @@ fn import_each<R: Threads + Wait + Sync, I: Inputs>(
     Ok(all)
 }
 
-/// Makes a folder with a script of each hart that a log has writes of.
+/// Creates a folder with a script for each hart that has writes in a log.
 pub fn import_harts<R: Threads + Wait + Sync, I: Inputs>(
     rt: &R,
     alloc: Global,

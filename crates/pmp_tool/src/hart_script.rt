@@ -12,7 +12,7 @@ pub struct HartScript {
     pub text: Vec<u8>,
 }
 
-/// The path of a hart's script in a folder.
+/// Returns the path of a hart's script in a folder.
 pub fn path_in(alloc: Global, folder: &str, hart: u64) -> Result<String, AllocError>
     ensures { IfOk result (λ path. string_bytes path ≡ path_in folder.now hart) }
 {

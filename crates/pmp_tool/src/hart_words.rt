@@ -1,4 +1,4 @@
-//! The hart that words of the command line say.
+//! The hart that words of the command line describe.
 
 ghost use Rattle.std.specs.Prelude.{◌≡◌, IfOk, None};
 ghost use Rattle.pmp_core.specs.Hart.{hart_fault, most_bits};
@@ -13,7 +13,7 @@ use clap::ArgMatches;
 use pmp_core::{Hart, HartFault, MAX_ADDRESS_BITS, MID_ADDRESS_BITS, Profile};
 use pmp_plan::Security;
 
-/// The option whose number no hart has.
+/// Returns the option whose number no hart has.
 fn argument_of(fault: HartFault) -> Argument
     ensures { result ≡ argument_of fault }
 {
@@ -24,7 +24,7 @@ fn argument_of(fault: HartFault) -> Argument
     }
 }
 
-/// The profile, where there is such a hart.
+/// Returns the profile, if there is such a hart.
 fn made(profile: Profile) -> Result<Profile, FaultLine>
     ensures value { result ≡ made profile }
     ensures there { IfOk result (λ hart. hart_fault hart ≡ None) }
@@ -35,7 +35,7 @@ fn made(profile: Profile) -> Result<Profile, FaultLine>
     }
 }
 
-/// The most bits that a physical address has.
+/// Returns the greatest number of physical address bits.
 fn most_bits(is_rv32: bool) -> u8
     ensures { result ≡ most_bits is_rv32 }
 {
@@ -46,7 +46,7 @@ fn most_bits(is_rv32: bool) -> u8
     }
 }
 
-/// What words say of a hart.
+/// What words say about a hart.
 #[derive(Clone, Copy)]
 struct HartWords {
     xlen: Option<Xlen>,
@@ -57,7 +57,7 @@ struct HartWords {
 }
 
 impl HartWords {
-    /// What isn't said is as of a hart of RV64 with 16 entries.
+    /// Returns the profile, which defaults to that of an RV64 hart with 16 entries.
     fn profile(self) -> Profile
         ensures { result ≡ profile_said self }
     {
@@ -72,7 +72,7 @@ impl HartWords {
     }
 }
 
-/// The hart with this XLEN, so many entries and this grain.
+/// Returns the hart with this XLEN, number of entries and grain.
 fn read_hart_with(
     words: &ArgMatches,
     xlen: Option<Xlen>,
@@ -94,7 +94,7 @@ fn read_hart_with(
     made(said.profile())
 }
 
-/// The hart that the words say.
+/// Returns the hart that the words describe.
 pub fn read_hart(words: &ArgMatches) -> Result<Profile, FaultLine>
     ensures value { result ≡ hart_in (rows_of (found_of words.now)) }
     ensures there { IfOk result (λ hart. hart_fault hart ≡ None) }
@@ -105,7 +105,7 @@ pub fn read_hart(words: &ArgMatches) -> Result<Profile, FaultLine>
     read_hart_with(words, xlen, entries, grain)
 }
 
-/// The bits of `mseccfg` that the words ask for.
+/// Returns the bits of `mseccfg` that the words ask for.
 pub fn read_security(words: &ArgMatches) -> Security
     ensures { result ≡ security_in (rows_of (found_of words.now)) }
 {
@@ -116,7 +116,7 @@ pub fn read_security(words: &ArgMatches) -> Security
     }
 }
 
-/// Whether the words say anything of a hart.
+/// Whether the words say anything about a hart.
 fn says_hart(words: &ArgMatches) -> bool
     ensures { result ≡ says_hart (rows_of (found_of words.now)) }
 {
@@ -134,7 +134,7 @@ fn says_security(words: &ArgMatches) -> bool
     is_set(words, Argument::Mml) || is_set(words, Argument::Mmwp) || is_set(words, Argument::Rlb)
 }
 
-/// Whether the words say anything of what a plan is for.
+/// Whether the words say anything about what a plan is for.
 pub fn is_hart_said(words: &ArgMatches) -> bool
     ensures { result ≡ is_hart_said (rows_of (found_of words.now)) }
 {

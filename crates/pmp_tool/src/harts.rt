@@ -1,4 +1,4 @@
-//! The harts that a command is asked of, where a folder of scripts stands in a script's place.
+//! The harts that a command is asked of, if a folder of scripts is given instead of a script.
 
 ghost use Rattle.std.specs.Prelude.{◌≡◌, IfErr, IfOk, Some, map, option_map, string_bytes};
 ghost use Rattle.pmp_names.specs.HartLists.{names_of};
@@ -21,15 +21,15 @@ use std::alloc::Global;
 /// The harts that a command is asked of.
 #[derive(Drop)]
 pub struct Harts {
-    /// Whether the path of the command's script is a folder's.
+    /// Whether the path of the command's script is that of a folder.
     pub old: bool,
-    /// Whether that of its new script is.
+    /// Whether the path of its new script is that of a folder.
     pub new: bool,
     /// The names of their scripts in the folder, or in both.
     pub names: Vec<HartName>,
 }
 
-/// Whether a folder may stand where a script does.
+/// Whether a folder may be given instead of a script.
 fn takes_folder(request: Request<'_>) -> bool
     ensures { result ≡ takes_folder request.entry }
 {
@@ -42,7 +42,7 @@ fn takes_folder(request: Request<'_>) -> bool
     }
 }
 
-/// The path of the new one of two scripts.
+/// Returns the path of the new one of two scripts.
 pub fn new_script<'a>(request: Request<'a>) -> Option<&'a str>
     ensures { option_map (λ path. path.now) result ≡ new_script request.entry }
 {
@@ -52,7 +52,7 @@ pub fn new_script<'a>(request: Request<'a>) -> Option<&'a str>
     }
 }
 
-/// The path of the second input.
+/// Returns the path of the second input.
 fn second_input<'a>(request: Request<'a>) -> Option<&'a str>
     ensures { option_map (λ path. path.now) result ≡ second_input request.entry }
 {
@@ -70,7 +70,7 @@ fn reads_stdin(command: Command<'_>) -> bool
     command.script == "stdin" || second_input(command.request).is_some_and(|path| path == "stdin")
 }
 
-/// The files of the folder at a path, where one is there.
+/// Returns the files of the folder at a path, if there is one.
 fn listed<I: Inputs>(
     inputs: &mut I,
     path: &str,
@@ -88,7 +88,7 @@ fn listed<I: Inputs>(
         .map_err(|fault| Failure::unread(fault, side))
 }
 
-/// The harts of a folder with these files.
+/// Returns the harts of a folder with these files.
 fn harts_of(alloc: Global, files: &[String], side: Option<Side>) -> Result<Vec<HartName>, Failure>
     ensures ok { IfOk result (λ harts. AreHarts (map string_bytes files.now) (names_of harts.items)) }
     ensures err { IfErr result (IsUnfit (map string_bytes files.now) side) }
@@ -96,7 +96,7 @@ fn harts_of(alloc: Global, files: &[String], side: Option<Side>) -> Result<Vec<H
     read_harts(alloc, files).map_err(|fault| Failure::unread(fault, side))
 }
 
-/// The harts of the folder at a path, where one is there: of two scripts, at that of the one on a side.
+/// Returns the harts of the folder at a path, if there is one: of two scripts, at the path of the one on this side.
 fn harts_at<I: Inputs>(
     alloc: Global,
     inputs: &mut I,
@@ -115,7 +115,7 @@ fn harts_at<I: Inputs>(
     Ok(Some(harts_of(alloc, &files, side)?))
 }
 
-/// The harts of the folder at the path of the new script, where one is there.
+/// Returns the harts of the folder at the path of the new script, if there is one.
 fn new_harts<I: Inputs>(
     alloc: Global,
     inputs: &mut I,
@@ -133,7 +133,7 @@ fn new_harts<I: Inputs>(
     }
 }
 
-/// The harts of one folder, or of two that have the same.
+/// Returns the harts of one folder, or of two that have the same.
 fn joined(old: Option<Vec<HartName>>, new: Option<Vec<HartName>>) -> Result<Option<Harts>, Refusal>
     ensures ok { IfOk result (AreJoined (names_in old) (names_in new)) }
     ensures err { IfErr result (AreUnjoined (names_in old) (names_in new)) }
@@ -154,7 +154,7 @@ fn joined(old: Option<Vec<HartName>>, new: Option<Vec<HartName>>) -> Result<Opti
     }
 }
 
-/// The harts of two folders, which have to be the same.
+/// Returns the harts of two folders, which must be the same.
 fn both(names: Vec<HartName>, others: &[HartName]) -> Result<Harts, Refusal>
     ensures ok { IfOk result (λ harts. AreJoined (Some (names_of names.items)) (Some (names_of others.now)) (Some harts)) }
     ensures err { IfErr result (AreUnjoined (Some (names_of names.items)) (Some (names_of others.now))) }
@@ -170,7 +170,7 @@ fn both(names: Vec<HartName>, others: &[HartName]) -> Result<Harts, Refusal>
 }
 
 impl Harts {
-    /// The harts that a command is asked of, where a folder stands in a script's place.
+    /// Returns the harts that a command is asked of, if a folder is given instead of a script.
     pub fn find<I: Inputs>(
         alloc: Global,
         command: Command<'_>,

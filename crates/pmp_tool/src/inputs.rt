@@ -1,4 +1,4 @@
-//! Where the program's inputs come from.
+//! The sources of the program's inputs.
 
 ghost use Rattle.std.specs.Prelude.{◌≡◌, ℕ, ◌≤◌, List, length, map, string_bytes, option_map, Option, None, IfOk, IfErr, OnOk};
 ghost use Rattle.pmp_text.specs.declared.input.TheConstants.{MAX_LIMIT};
@@ -21,26 +21,26 @@ use std::{fs, io};
 
 /// The inputs that the program's words name.
 pub trait Inputs {
-    /// What gives the bytes of a trace little by little.
+    /// The reader of the bytes of a trace, little by little.
     type Trace: Read + Drop;
 
-    /// The bytes of the script at a path, where it is known what they are.
+    /// The bytes of the script at a path, if they are known.
     ghost scripts: { Self → List ℕ → Option (List ℕ) } = { λ _ _. None };
 
-    /// The bytes of the trace, the policy or the log at a path, where it is known what they are.
+    /// The bytes of the trace, the policy or the log at a path, if they are known.
     ghost traces: { Self → List ℕ → Option (List ℕ) } = { λ _ _. None };
 
-    /// The names of the files of the folder at a path, or none where no folder is there, where that is known.
+    /// The names of the files of the folder at a path, or none if there is no folder, if that is known.
     ghost folders: { Self → List ℕ → Option (Option (List (List ℕ))) } = { λ _ _. None };
 
-    /// The bytes of the script at this path.
+    /// Returns the bytes of the script at this path.
     fn script(&mut self, path: &str) -> Result<Vec<u8>, InputFault>
         ensures read { IfOk result (λ bytes. AreBytesOf (scripts self.old path.now) bytes.items) }
         ensures unread { IfErr result (CantBeRead MAX_HEADED_SCRIPT (scripts self.old path.now)) }
         ensures scripts { scripts self.new ≡ scripts self.old }
         ensures traces { traces self.new ≡ traces self.old };
 
-    /// The bytes of the trace or the policy at this path.
+    /// Returns the bytes of the trace or the policy at this path.
     fn trace(&mut self, path: &str) -> Result<Vec<u8>, InputFault>
         ensures read { IfOk result (λ bytes. AreBytesOf (traces self.old path.now) bytes.items) }
         ensures unread { IfErr result (CantBeRead MAX_TRACE (traces self.old path.now)) }
@@ -48,14 +48,14 @@ pub trait Inputs {
         ensures traces { traces self.new ≡ traces self.old }
         ensures folders { folders self.new ≡ folders self.old };
 
-    /// A reader of the trace or the log at this path, of which no byte is read yet.
+    /// Returns a reader of the trace or the log at this path, of which no byte is read yet.
     fn open_trace(&mut self, path: &str) -> Result<Self::Trace, InputFault>
         ensures opened { IfOk result (λ reader. GivesBytesOf (traces self.old path.now) (Self.Trace.remaining reader)) }
         ensures unopened { IfErr result CantBeOpened }
         ensures scripts { scripts self.new ≡ scripts self.old }
         ensures traces { traces self.new ≡ traces self.old };
 
-    /// The names of the files of the folder at this path, or none where no folder is there.
+    /// Returns the names of the files of the folder at this path, or none if there is no folder.
     fn folder(&mut self, path: &str) -> Result<Option<Vec<String>>, InputFault>
         ensures listed { IfOk result (λ found. IsFolder (folders self.old path.now)
             (option_map (λ files. map string_bytes files.items) found)) }
@@ -64,7 +64,7 @@ pub trait Inputs {
         ensures traces { traces self.new ≡ traces self.old }
         ensures folders { folders self.new ≡ folders self.old };
 
-    /// Makes a folder at this path, with these scripts. Where that can't be done wholly there is no folder.
+    /// Creates a folder at this path, with these scripts. If that can't be done completely there is no folder.
     fn make_folder(&mut self, path: &str, files: &[HartScript]) -> Result<(), Refusal>
         ensures made { OnOk result (AreMade path.now files.now (scripts self.new)) }
         ensures unmade { IfErr result CantBeMade };
@@ -75,7 +75,7 @@ pub trait Inputs {
         ensures traces { traces self.new ≡ traces self.old }
         ensures folders { folders self.new ≡ folders self.old };
 
-    /// What is kept of the inputs so far.
+    /// Returns what is kept of the inputs so far.
     fn kept(&self) -> &Kept;
 }
 
@@ -83,13 +83,13 @@ pub trait Inputs {
 #[derive(Drop)]
 pub struct SystemInputs<'a, R, E> {
     runtime: &'a R,
-    /// Where it is shown how far a trace was read little by little.
+    /// Where progress in reading a long trace is shown.
     terminal: Option<E>,
     kept: Kept,
 }
 
 impl<'a, R: AllocGlobal, E> SystemInputs<'a, R, E> {
-    /// What is read is kept too, where that is said.
+    /// Creates the inputs, which also keep what is read if `keeps` is set.
     pub fn new(runtime: &'a R, terminal: Option<E>, keeps: bool) -> Self {
         let kept = Kept::new(runtime.alloc(), keeps);
         SystemInputs {
@@ -145,7 +145,7 @@ impl<'a, R: Files + Input + AllocGlobal + Clock + Clone + Drop, E: Write + Drop>
     }
 }
 
-/// Why a folder can't be read.
+/// Returns why a folder can't be read.
 fn folder_fault(error: io::Error) -> InputFault
     ensures { CantBeOpened result }
 {
@@ -168,7 +168,7 @@ fn is_folder<R: Files>(runtime: &R, path: &str) -> Result<bool, InputFault>
     }
 }
 
-/// The names of the files in a folder.
+/// Returns the names of the files in a folder.
 fn files_of<R: Files + AllocGlobal + Clone + Drop>(
     runtime: &R,
     path: &str,
@@ -213,7 +213,7 @@ fn read_trace_at<R: Files + Input + AllocGlobal>(
     read_at(runtime, path, MAX_TRACE as u64)
 }
 
-/// All bytes of the file at the path, or of standard input, which are at most `limit`.
+/// Returns all bytes of the file at the path, or of standard input, which are at most `limit`.
 fn read_at<R: Files + Input + AllocGlobal>(
     runtime: &R,
     path: &str,

@@ -6,11 +6,11 @@ use std::alloc::{AllocError, Global};
 #[derive(Drop)]
 pub struct KeptInput {
     pub path: String,
-    /// Its bytes, or none where it can't be read, isn't kept, or is a long trace.
+    /// Its bytes, or none if it can't be read, isn't kept, or is a long trace.
     pub bytes: Vec<u8>,
 }
 
-/// The inputs of a command in the order in which it takes them, where they are kept.
+/// The inputs of a command in the order in which it takes them, if they are kept.
 #[derive(Drop)]
 pub struct Kept {
     alloc: Global,
@@ -19,7 +19,7 @@ pub struct Kept {
 }
 
 impl Kept {
-    /// Nothing is kept yet, and nothing will be unless it `keeps` inputs.
+    /// Returns an empty list, which will keep inputs only if `keeps` is set.
     pub fn new(alloc: Global, keeps: bool) -> Kept {
         Kept {
             alloc,
@@ -28,7 +28,7 @@ impl Kept {
         }
     }
 
-    /// Takes note of an input. Where there is no memory for that, nothing is kept from here on.
+    /// Notes an input. If there is no memory for that, nothing is kept from here on.
     pub fn begin(&mut self, path: &str) {
         if self.keeps && self.add(path).is_err() {
             self.keeps = false;
@@ -41,7 +41,7 @@ impl Kept {
         Ok(self.inputs.push(KeptInput { path, bytes })?)
     }
 
-    /// Keeps the bytes of the last input, where there is memory for them.
+    /// Keeps the bytes of the last input, if there is memory for them.
     pub fn fill(&mut self, bytes: &[u8]) {
         if !self.keeps {
             return;
@@ -51,7 +51,7 @@ impl Kept {
         }
     }
 
-    /// Forgets them, and keeps those that come as before.
+    /// Forgets them, and keeps later ones as before.
     pub fn forget(&mut self) {
         self.inputs.clear();
     }

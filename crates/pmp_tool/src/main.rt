@@ -1,4 +1,4 @@
-//! The command `pmp`, which decides accesses to physical memory as the PMP unit of one RISC-V hart does.
+//! The command `pmp`, which decides accesses to physical memory like the PMP unit of one RISC-V hart.
 #![tactic(auto)]
 
 mod answer;
@@ -67,7 +67,7 @@ fn main(rt: HostRuntime) -> ExitCode {
     ))
 }
 
-/// The program's words. One that is no text is a bad word.
+/// Returns the program's words. One that is not text is a bad word.
 fn arguments(rt: &HostRuntime) -> Result<Vec<String>, Refusal> {
     let arguments = env::args(rt).map_err(|fault| match fault.kind() {
         ErrorKind::OutOfMemory => Refusal::Memory,

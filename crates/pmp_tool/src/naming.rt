@@ -1,4 +1,4 @@
-//! The names that a command's rows are to have behind them.
+//! The names that are added after a command's rows.
 
 ghost use Rattle.std.specs.Prelude.{◌≡◌, IfOk, map, option_map};
 ghost use Rattle.pmp_names.specs.NameLists.{named};
@@ -9,14 +9,14 @@ use pmp_audit::View;
 use pmp_names::{AddressName, Columns, append_named};
 use std::alloc::{AllocError, Global};
 
-/// Names of addresses, and which fields of a command's rows are addresses.
+/// Names of addresses, and the fields of a command's rows that are addresses.
 #[derive(Clone, Copy)]
 pub struct Naming<'a> {
     pub names: &'a [AddressName<'a>],
     pub columns: Columns,
 }
 
-/// Which fields of its rows are addresses.
+/// Returns which fields of its rows are addresses.
 fn columns_of(request: Request<'_>) -> Option<Columns>
     ensures { result ≡ columns_of request.entry }
 {
@@ -32,7 +32,7 @@ fn columns_of(request: Request<'_>) -> Option<Columns>
 }
 
 impl<'a> Naming<'a> {
-    /// These names, for the rows of a request.
+    /// Returns these names, for the rows of a request.
     pub fn of(names: &'a [AddressName<'a>], request: Request<'_>) -> Option<Naming<'a>>
         ensures { plain_naming result ≡ option_map (λ columns. (map named names.now, columns))
             (columns_of request.entry) }
@@ -44,7 +44,7 @@ impl<'a> Naming<'a> {
     }
 }
 
-/// The rows with names behind them, where they are to have some.
+/// Returns the rows with names after them, if they are to have some.
 pub fn with_names(
     alloc: Global,
     naming: Option<Naming<'_>>,

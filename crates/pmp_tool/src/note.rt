@@ -1,4 +1,4 @@
-//! The line that tells, beside an answer, of what was guessed, or of an address that may not be what its writer meant.
+//! The line beside an answer that reports a guess, or an address that may not be what its writer meant.
 
 ghost use Rattle.std.specs.Prelude.{Some, OnErr, OnOk};
 ghost use Rattle.std.specs.Io.KnownBytes.{Appends};
@@ -27,22 +27,22 @@ pub enum Note {
     Guessed(u64, u64, u64),
     /// The hart of a log that was read once, and how many entries it has.
     Taken(u64, u64),
-    /// How many scripts were written to a folder, one a hart.
+    /// The number of scripts that were written to a folder, one for each hart.
     Scripts(u64),
 }
 
-/// What the note says of it.
+/// What the note says about it.
 const AS_DECIMAL: &str =
     "14 digits without 0x are read as decimal; write 0x before a hexadecimal address";
 
-/// More bytes than a note has: a number has 20 digits.
+/// More than the greatest length of a note in bytes: a number has 20 digits.
 const LONGEST_NOTE: usize = 160;
 
 fn law_note_fits()
     ensures { NoteFitsLaw }
 {}
 
-/// Writes the note of an answer, where there is one, by one write where the writer takes it whole.
+/// Writes the note of an answer, if there is one, in one write if the writer takes it whole.
 pub fn tell_note<W: Write>(outcome: Outcome, writer: &mut W)
     ensures { Notes outcome (W.contents writer.old) (W.contents writer.new) }
 {
@@ -63,7 +63,7 @@ impl Note {
     }
 }
 
-/// How many writes of other harts a script hasn't, where they have some.
+/// How many writes of other harts a script leaves out, if there are any.
 #[derive(Clone, Copy)]
 struct LeftOut(u64);
 
@@ -78,7 +78,7 @@ impl fmt::Display for LeftOut {
     }
 }
 
-/// What it says.
+/// Shows the text of the note.
 impl fmt::Display for Note {
     ghost output = { λ note. Some (note_text note) };
 

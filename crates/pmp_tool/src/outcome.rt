@@ -1,4 +1,4 @@
-//! What the program did, and the exit status of that.
+//! The outcomes of the program, and their exit statuses.
 
 ghost use Rattle.std.specs.Prelude.{◌≡◌, ◌==◌, if◌then◌else◌};
 ghost use Rattle.pmp_tool.specs.Notes.{note_of};
@@ -10,35 +10,33 @@ use crate::request::Check;
 use pmp_audit::{PolicySummary, Summary, WriteSummary};
 use pmp_core::Decision;
 
-/// The exit status of texts and lists that were written, of an answer that is the expected one, of accesses that are
-/// all allowed, of a policy that holds, of writes that are all stored with all that is expected, and of register files
-/// that don't differ as is asked.
+/// The exit status if texts and lists are written, an answer is the expected one, all accesses are allowed, a policy
+/// holds, all writes are stored and all expectations are met, or register files have none of the differences asked for.
 const DONE: u8 = 0;
 
-/// The exit status of an answer that isn't the expected one, of an access of a trace that is refused, of a policy that
-/// is broken, of a write that isn't stored as written, of a register that differs from what is expected, and of
-/// register files that differ.
+/// The exit status if an answer isn't the expected one, an access of a trace is refused, a policy is broken, a write
+/// isn't stored as written, a register differs from what is expected, or register files differ.
 const OTHER: u8 = 1;
 
 /// What the program did.
 #[derive(Clone, Copy)]
 pub enum Outcome {
-    /// The decision on an access, and what was asked.
+    /// The decision on an access, and the question.
     Decided(Decision, Check),
-    /// Why an access is decided as it is was written; whether the word START has 14 digits and no `0x`.
+    /// The reason for a decision on an access was written; whether the word START has 14 digits and no `0x`.
     Explained(Decision, bool),
     Audited(Summary),
     /// How many rows of a policy there are, and how many are broken.
     Judged(PolicySummary),
-    /// What is shown of a register file was written.
+    /// A view of a register file was written.
     Listed,
-    /// What each write does was written.
+    /// The effect of each write was written.
     Replayed(WriteSummary),
-    /// So many findings were written.
+    /// The given number of findings was written.
     Found(u64),
-    /// So many rows were written, of where two register files differ.
+    /// The given number of rows was written, for differences between two register files.
     Compared(u64),
-    /// A script was written of a log; the note says what was guessed.
+    /// A script was written for a log; the note says what was guessed.
     Imported(Note),
     /// A text of help or the version was written.
     Told,
@@ -60,14 +58,14 @@ impl Outcome {
         }
     }
 
-    /// Of two outcomes, the first one where it doesn't end well.
+    /// Returns the first of two outcomes if its exit status isn't 0, and otherwise the second.
     pub fn worse(self, next: Outcome) -> Outcome
         ensures { result ≡ worse self next }
     {
         if self.status() == DONE { next } else { self }
     }
 
-    /// What standard error tells beside it.
+    /// Returns what standard error reports beside it.
     pub fn note(self) -> Option<Note>
         ensures { result ≡ note_of self }
     {
@@ -82,7 +80,7 @@ impl Outcome {
     }
 }
 
-/// The exit status where so many rows aren't as is wished.
+/// Returns the exit status if `others` rows aren't as desired.
 fn status_of(others: u64) -> u8
     ensures { result ≡ if others == 0 then 0 else 1 }
 {

@@ -1,4 +1,4 @@
-//! What the program answers a plan, or a script whose plan is asked for.
+//! The program's answers to a plan, or to a script whose plan is asked for.
 
 ghost use Rattle.std.specs.Prelude.{IfErr, IfOk};
 ghost use Rattle.pmp_audit.specs.Answers.{IsWritten};
@@ -34,7 +34,7 @@ pub fn answer_plan<O: Write>(
     Ok(Outcome::Listed)
 }
 
-/// Writes the plan that the registers of a script amount to.
+/// Writes the plan that a script's registers implement.
 pub fn answer_plan_of<O: Write>(
     alloc: Global,
     script: &[u8],

@@ -1,4 +1,4 @@
-//! How far a trace was read, on a terminal.
+//! Progress in reading a trace, on a terminal.
 
 ghost use Rattle.std.specs.Prelude.{◌≡◌};
 
@@ -8,26 +8,26 @@ use std::io;
 use std::io::{Read, Write};
 use std::time::{Clock, Instant};
 
-/// The room of the line, which has at most 24 bytes.
+/// The room for the line, which has at most 24 bytes.
 const LINE: usize = 32;
 
-/// What takes the line away: spaces over all of it.
+/// The text that clears the line: spaces over all of it.
 const CLEARED: &[u8] = b"\r                        \r";
 
-/// A reader, with a line on a terminal that says how many bytes came from it. The line is written anew once a second,
-/// and cleared when the reader is dropped. Where there is no terminal, or no time, nothing is written.
+/// A reader, with a line on a terminal that says how many bytes came from it. The line is rewritten once a second, and
+/// cleared when the reader is dropped. Without a terminal or a clock, nothing is written.
 pub struct Watched<'a, I: Drop, C, E: Write + Drop> {
     input: I,
     clock: &'a C,
     terminal: Option<E>,
     bytes: u64,
-    /// When the line was written, or the first bytes came.
+    /// When the line was last written, or the first bytes came.
     since: Option<Instant>,
     is_shown: bool,
 }
 
 impl<'a, I: Drop, C: Clock, E: Write + Drop> Watched<'a, I, C, E> {
-    /// No byte came yet, and nothing is written.
+    /// Creates the reader, from which no byte came yet; nothing is written.
     pub fn new(input: I, clock: &'a C, terminal: Option<E>) -> Self {
         Watched {
             input,
@@ -39,7 +39,7 @@ impl<'a, I: Drop, C: Clock, E: Write + Drop> Watched<'a, I, C, E> {
         }
     }
 
-    /// Whether a second is over since the line was written, or the first bytes came.
+    /// Whether a second has passed since the line was last written, or the first bytes came.
     fn is_due(&mut self) -> bool
         ensures { self.new.input ≡ self.old.input }
     {

@@ -1,4 +1,4 @@
-//! What is asked for of a script.
+//! The requests about a script.
 
 ghost use Rattle.std.specs.Prelude.{◌≡◌, ℕ, ◌≤◌, None, Some};
 ghost use Rattle.pmp_core.specs.Hart.{hart_fault};
@@ -17,29 +17,29 @@ use pmp_text::When;
 #[derive(Clone, Copy)]
 pub struct Check {
     pub access: Access,
-    /// When it is decided, where not after all publications.
+    /// When it is decided, unless after all publications.
     pub after: Option<When>,
     pub expected: Expected,
     /// Whether the word START has 14 digits and no `0x`.
     pub is_bare: bool,
 }
 
-/// Why an access is decided as it is.
+/// The reason why an access is decided as it is.
 #[derive(Clone, Copy)]
 pub struct Why {
     pub access: Access,
-    /// When it is decided, where not after all publications.
+    /// When it is decided, unless after all publications.
     pub after: Option<When>,
     /// Whether the word START has 14 digits and no `0x`.
     pub is_bare: bool,
 }
 
-/// An audit of a trace that is taken whole.
+/// An audit of a trace that is read as a whole.
 #[derive(Clone, Copy)]
 pub struct Audit<'a> {
     /// The path of the trace.
     pub trace: &'a str,
-    /// How many checkers decide its rows, where that is said.
+    /// How many checkers decide its rows, if that is given.
     pub checkers: Option<u64>,
     ghost few: { (count : ℕ) → checkers ≡ Some count → (1 ≤ count) × (count ≤ CHECKERS) },
 }
@@ -49,20 +49,20 @@ pub struct Audit<'a> {
 pub struct LongAudit<'a> {
     /// The path of the trace.
     pub trace: &'a str,
-    /// How many jobs are done at a time, where that is said.
+    /// How many jobs run at a time, if that is given.
     pub jobs: Option<u64>,
     /// The number of the first row.
     pub first: u64,
 }
 
-/// A script of what a simulator or a debugger has logged.
+/// A script made from the log of a simulator or a debugger.
 #[derive(Clone, Copy)]
 pub struct Import<'a> {
     /// The path of the log.
     pub log: &'a str,
     pub format: Format,
     pub options: Options,
-    /// The path of the folder that is made for the scripts of all harts, where that is asked for.
+    /// The path of the folder that is created for the scripts of all harts, if that is asked for.
     pub folder: Option<&'a str>,
 }
 
@@ -71,18 +71,18 @@ pub struct Import<'a> {
 pub struct Diff<'a> {
     /// The path of the new script.
     pub new: &'a str,
-    /// When the old script is looked at, where not after all its publications.
+    /// When the old script is examined, unless after all its publications.
     pub old_after: Option<When>,
-    /// When the new one is.
+    /// When the new one is examined.
     pub new_after: Option<When>,
-    /// Which rows are asked for.
+    /// The wanted rows.
     pub changes: AskedChanges,
 }
 
 /// The writes for a plan.
 #[derive(Clone, Copy)]
 pub struct Plan {
-    /// The hart that they are for, which was reset.
+    /// The hart that they are for, after reset.
     pub hart: Profile,
     /// The bits of `mseccfg` that they leave.
     pub security: Security,
@@ -90,26 +90,26 @@ pub struct Plan {
     ghost made: { hart_fault hart ≡ None },
 }
 
-/// What is asked for of a script.
+/// A request about a script.
 #[derive(Clone, Copy)]
 pub enum Request<'a> {
     Check(Check),
     Why(Why),
     Audit(Audit<'a>),
     LongAudit(LongAudit<'a>),
-    /// The path of the policy, and how often it asks.
+    /// The path of the policy, and how often it checks.
     Policy(&'a str, Pace),
-    /// What is shown, and when, where not after all publications.
+    /// The view, and when, unless after all publications.
     Show(View, Option<When>),
     Writes,
-    /// What is found in it, and which findings are accepted.
+    /// The findings in it, and which of them are accepted.
     Lint(Option<Accepted>),
     Diff(Diff<'a>),
-    /// Where the harts of a folder differ, and whether in their locks too.
+    /// The differences between the harts of a folder, and whether those of their locks too.
     Harts(bool),
     Import(Import<'a>),
-    /// The writes for the plan that stands in the script's place.
+    /// The writes for the plan that is given instead of the script.
     Plan(Plan),
-    /// The plan that the registers of a script amount to.
+    /// The plan that a script's registers implement.
     PlanOf,
 }

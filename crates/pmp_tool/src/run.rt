@@ -34,15 +34,15 @@ use std::io::Write;
 use std::sync::Wait;
 use std::thread::Threads;
 
-/// Runs the program on its words, those after its own name, and answers its exit status: 0 where the answer to a check
-/// is the expected one, each access of a trace is allowed, each row of a policy holds, each write is stored, no
-/// difference is written, or what is shown or a text of help was written, 1 where that isn't so, 2 or 3 where there is
-/// no answer, with a text on `err` that says why.
+/// Runs the program on its words, those after its own name, and returns its exit status: 0 if the answer to a check is
+/// the expected one, each access of a trace is allowed, each row of a policy holds, each write is stored, no difference
+/// is written, or a view or a help text was written; 1 if that isn't so; 2 or 3 if there is no answer, with a text on
+/// `err` that says why.
 ///
-/// `rt` makes the threads of an audit by several checkers, for which the call may wait.
+/// `rt` creates the threads of an audit by several checkers, for which the call may wait.
 ///
-/// `out` gets the report rows, the lines, the picture or the text. A text on `err` is handed over whole, by one write,
-/// and an explanation behind it by another. Where it can't be written, or not wholly, the status is the same.
+/// `out` gets the report rows, the lines, the picture or the text. A text on `err` is handed over whole, in one write,
+/// and an explanation after it in another. If it can't be written, or not completely, the status is the same.
 pub fn run_tool<R: Threads + Wait + Sync, I: Inputs, O: Write, E: Write>(
     rt: &R,
     alloc: Global,
@@ -53,21 +53,21 @@ pub fn run_tool<R: Threads + Wait + Sync, I: Inputs, O: Write, E: Write>(
 ) -> u8
     ensures status { result ≤ 3 }
 
-    // What the words ask for was written, to a folder where they ask for one, and to standard error only the answer's
+    // The requested text was written, to a folder if the words ask for one, and to standard error only the answer's
     // note.
     ensures answered { result ≤ 1 → (outcome : Outcome) × (result ≡ outcome_status outcome)
         × Answers (map string_bytes words.now) (I.scripts inputs.old) (I.traces inputs.old) (I.folders inputs.old)
         (O.contents out.old) (O.contents out.new) (I.scripts inputs.new) outcome
         × Notes outcome (E.contents err.old) (E.contents err.new) }
 
-    // Why it wasn't, or not wholly, and how standard error tells of that: behind its line stands an explanation, where
+    // Why it wasn't, or not completely, and how standard error reports that: its line is followed by an explanation if
     // the words ask for one.
     ensures failed { 2 ≤ result → (failure : Failure) × (result ≡ failure_status failure)
         × Fails (map string_bytes words.now) (I.scripts inputs.old) (I.traces inputs.old) (I.folders inputs.old)
         (O.contents out.old) (O.contents out.new) failure
         × TellsAndExplains (map string_bytes words.now) failure (E.contents err.old) (E.contents err.new) }
 
-    // A long audit may be refused behind rows that it wrote, and an import behind lines; nothing else may.
+    // A long audit may be refused after rows that it wrote, and an import after lines; nothing else may.
     ensures untouched { result ≡ 2 → AsksForPieces (map string_bytes words.now)
         ⊎ Keeps (O.contents out.old) (O.contents out.new) }
 {
@@ -83,7 +83,7 @@ pub fn run_tool<R: Threads + Wait + Sync, I: Inputs, O: Write, E: Write>(
     }
 }
 
-/// Reads the words, and does what they ask for.
+/// Reads the words, and does what they request.
 fn run<R: Threads + Wait + Sync, I: Inputs, O: Write>(
     rt: &R,
     alloc: Global,
@@ -103,7 +103,7 @@ fn run<R: Threads + Wait + Sync, I: Inputs, O: Write>(
     }
 }
 
-/// Answers what `clap` found in the words.
+/// Answers the matches that `clap` found in the words.
 fn answer_words<R: Threads + Wait + Sync, I: Inputs, O: Write>(
     rt: &R,
     alloc: Global,
@@ -122,7 +122,7 @@ fn answer_words<R: Threads + Wait + Sync, I: Inputs, O: Write>(
     }
 }
 
-/// Answers it where addresses have no names.
+/// Answers it without names of addresses.
 fn answer_without<R: Threads + Wait + Sync, I: Inputs, O: Write>(
     rt: &R,
     alloc: Global,
@@ -139,7 +139,7 @@ fn answer_without<R: Threads + Wait + Sync, I: Inputs, O: Write>(
     answer_all(rt, alloc, command, None, inputs, out)
 }
 
-/// Answers it where addresses have the names of the text at this path.
+/// Answers it with the names of addresses in the text at this path.
 fn answer_with<R: Threads + Wait + Sync, I: Inputs, O: Write>(
     rt: &R,
     alloc: Global,
@@ -181,7 +181,7 @@ fn answer_all<R: Threads + Wait + Sync, I: Inputs, O: Write>(
     answer_by(rt, alloc, command, naming, inputs, out)
 }
 
-/// Answers a command: of the hart of its script, or of each hart where a folder stands in the script's place.
+/// Answers a command: for the hart of its script, or for each hart if a folder is given instead of a script.
 fn answer_by<R: Threads + Wait + Sync, I: Inputs, O: Write>(
     rt: &R,
     alloc: Global,

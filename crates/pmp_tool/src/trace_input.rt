@@ -12,7 +12,7 @@ pub enum TraceInput<R: Files + Input> {
 }
 
 impl<R: Files + Input> TraceInput<R> {
-    /// The path `stdin` means standard input.
+    /// Opens the file at the path; `stdin` means standard input.
     pub fn open(runtime: &R, path: &str) -> io::Result<Self> {
         match path {
             "stdin" => Ok(TraceInput::Standard(runtime.reader())),

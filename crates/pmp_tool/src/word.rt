@@ -1,4 +1,4 @@
-//! What the words of the command line say that `clap` found.
+//! The meaning of the words of the command line that `clap` found.
 
 ghost use Rattle.std.specs.Prelude.{◌≡◌, ◌<◌, ◌≤◌, IfSome, List, ℕ, Option, option_map};
 ghost use Rattle.clap.specs.Words.{found_of, rows_of};
@@ -21,7 +21,7 @@ use pmp_lint::Accepted;
 use pmp_text::{Only, Refusal, When, is_bare, read_kind, read_mode, read_word_number};
 
 impl FaultLine {
-    /// The argument's word isn't of its form.
+    /// Returns the fault of an argument whose word isn't of its form.
     pub fn of_word(argument: Argument) -> FaultLine
         ensures { result ≡ bad_word argument }
     {
@@ -32,9 +32,9 @@ impl FaultLine {
     }
 }
 
-/// What a word of the command line can name.
+/// A value that a word of the command line can name.
 pub trait Form: Sized {
-    /// What a word names, where it is of this form.
+    /// The value of a word, if it is of this form.
     ghost named: { List ℕ → Option Self };
 
     fn read(word: &str) -> Option<Self>
@@ -76,7 +76,7 @@ impl Form for Kind {
 impl Form for Expected {
     ghost named = { expected_named };
 
-    /// `allow` or `fault`, as rows write them.
+    /// Reads `allow` or `fault`, as rows write them.
     fn read(word: &str) -> Option<Expected> {
         match word {
             "allow" => Some(Expected::Allow),
@@ -89,7 +89,7 @@ impl Form for Expected {
 impl Form for Accepted {
     ghost named = { accepted_said };
 
-    /// `NAME` or `NAME:LINE`, as `pmp lint` writes them.
+    /// Reads `NAME` or `NAME:LINE`, as `pmp lint` writes them.
     fn read(word: &str) -> Option<Accepted> {
         Accepted::read(word.as_bytes())
     }
@@ -98,7 +98,7 @@ impl Form for Accepted {
 impl Form for Only {
     ghost named = { only_named };
 
-    /// `more` or `less`, as rows write them.
+    /// Reads `more` or `less`, as rows write them.
     fn read(word: &str) -> Option<Only> {
         match word {
             "more" => Some(Only::More),
@@ -108,7 +108,7 @@ impl Form for Only {
     }
 }
 
-/// What a word says of XLEN.
+/// What a word says about XLEN.
 #[derive(Clone, Copy)]
 pub struct Xlen {
     /// Whether it is 32, and not 64.
@@ -118,7 +118,7 @@ pub struct Xlen {
 impl Form for Xlen {
     ghost named = { xlen_named };
 
-    /// `32` or `64`.
+    /// Reads `32` or `64`.
     fn read(word: &str) -> Option<Xlen> {
         match word {
             "32" => Some(Xlen { is_rv32: true }),
@@ -128,7 +128,7 @@ impl Form for Xlen {
     }
 }
 
-/// What a word says of Smepmp.
+/// What a word says about Smepmp.
 #[derive(Clone, Copy)]
 pub struct Smepmp {
     pub is_there: bool,
@@ -137,7 +137,7 @@ pub struct Smepmp {
 impl Form for Smepmp {
     ghost named = { smepmp_named };
 
-    /// `yes` or `no`.
+    /// Reads `yes` or `no`.
     fn read(word: &str) -> Option<Smepmp> {
         match word {
             "yes" => Some(Smepmp { is_there: true }),
@@ -160,14 +160,14 @@ impl Form for u8 {
     }
 }
 
-/// What a word says of the grain.
+/// What a word says about the grain.
 #[derive(Clone, Copy)]
 pub struct Grain {
     /// The manual's G, 0 to 10.
     pub place: u8,
 }
 
-/// The grains that there are, in bytes: that of G is at place G.
+/// The possible grains in bytes: that of G is at index G.
 const GRAINS: [u64; 11] = [4, 8, 16, 32, 64, 128, 256, 512, 1024, 2048, 4096];
 
 fn place_of(bytes: u64) -> Option<usize>
@@ -180,7 +180,7 @@ fn place_of(bytes: u64) -> Option<usize>
 impl Form for Grain {
     ghost named = { grain_named };
 
-    /// A number of bytes.
+    /// Reads a number of bytes.
     fn read(word: &str) -> Option<Grain> {
         let bytes = read_word_number(word.as_bytes())?;
         let place = place_of(bytes)?;
@@ -188,7 +188,7 @@ impl Form for Grain {
     }
 }
 
-/// The word of an argument, where there is one.
+/// Returns the word of an argument, if there is one.
 pub fn word<'a>(words: &ArgMatches<'a>, argument: Argument) -> Option<&'a str>
     ensures { option_map (λ word. word.now) result ≡ word_in argument (rows_of (found_of words.now)) }
 {
@@ -202,7 +202,7 @@ pub fn is_used(words: &ArgMatches, argument: Argument) -> bool
     word(words, argument).is_some()
 }
 
-/// Whether an option without a word is used: `clap` finds the word `true` for it then.
+/// Whether an option without a word is used: `clap` then finds the word `true` for it.
 pub fn is_set(words: &ArgMatches, argument: Argument) -> bool
     ensures { result ≡ is_set argument (rows_of (found_of words.now)) }
 {
@@ -216,7 +216,7 @@ pub fn is_bare_word(words: &ArgMatches, argument: Argument) -> bool
     word(words, argument).is_some_and(|word| is_bare(word.as_bytes()))
 }
 
-/// What an option says, where it is used.
+/// Returns what an option says, if it is used.
 pub fn asked<T: Form>(words: &ArgMatches, argument: Argument) -> Result<Option<T>, FaultLine>
     ensures { result ≡ asked_in T.named argument (rows_of (found_of words.now)) }
 {
@@ -226,14 +226,14 @@ pub fn asked<T: Form>(words: &ArgMatches, argument: Argument) -> Result<Option<T
     }
 }
 
-/// What a word says that its command requires.
+/// Returns what a word says that its command requires.
 pub fn needed<T: Form>(words: &ArgMatches, argument: Argument) -> Result<T, FaultLine>
     ensures { result ≡ needed_in T.named argument (rows_of (found_of words.now)) }
 {
     asked(words, argument)?.ok_or(FaultLine::of_word(argument))
 }
 
-/// What an option says that wants a number from 1 to `most`, where it is used.
+/// Returns the value of an option that takes a number from 1 to `most`, if it is used.
 pub fn count(words: &ArgMatches, argument: Argument, most: u64) -> Result<Option<u64>, FaultLine>
     ensures value { result ≡ count_in most argument (rows_of (found_of words.now)) }
     ensures limits { (count : ℕ) → result ≡ Ok (Some count) → (1 ≤ count) × (count ≤ most) }

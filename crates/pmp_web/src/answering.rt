@@ -1,4 +1,4 @@
-//! How an answer is made in its room, and told.
+//! How an answer is written to its room, and its status returned.
 
 ghost use Rattle.std.specs.Prelude.{◌≡◌, [], IfErr, IfOk};
 ghost use Rattle.pmp_audit.specs.Answers.{Declines, IsAppended};
@@ -13,25 +13,25 @@ use pmp_audit::{AuditFault, Side};
 use pmp_import::{ImportFault, Options};
 use pmp_text::{FixedLog, Refusal, Sink, read_script};
 
-/// The most events of a script.
+/// The greatest number of events in a script.
 const EVENTS: usize = 1 << 14;
 
-/// The most publications of a script.
+/// The greatest number of publications in a script.
 const PUBLICATIONS: usize = 1 << 12;
 
-/// The most that a script may expect of registers.
+/// The greatest number of a script's expectations of registers.
 const EXPECTATIONS: usize = 1 << 12;
 
-/// The most moments that a script may name.
+/// The greatest number of moments that a script may name.
 const MARKS: usize = 1 << 8;
 
 /// The status of an answer.
 pub const ANSWERED: u32 = 0;
 
-/// What is added to the number of a refusal of the new one of two scripts.
+/// The number added to that of a refusal of the new one of two scripts.
 const OF_NEW: u32 = 256;
 
-/// What is asked for of a log's script: all is guessed, and the hart has Smepmp.
+/// The options for the script of a log: all is guessed, and the hart has Smepmp.
 pub const GUESSED: Options = Options {
     hart: None,
     is_rv32: None,
@@ -45,7 +45,7 @@ pub const GUESSED: Options = Options {
 /// The room of a script's events.
 pub type Log = FixedLog<EVENTS, PUBLICATIONS, EXPECTATIONS, MARKS>;
 
-/// Makes an answer in its room, emptied before, and tells of it or of the refusal.
+/// Writes an answer to its room, emptied before, and returns the status of it or of the refusal.
 macro_rules! tell {
     ($answer:ident, $made:expr) => {{
         $answer.clear();
@@ -61,7 +61,7 @@ macro_rules! tell {
 
 pub(crate) use tell;
 
-/// Tells of a refusal, beside which there is no text.
+/// Returns the status of a refusal, which leaves no text in the room.
 pub fn refuse(answer: &mut Answer, fault: &AuditFault) -> u32
     ensures number { result ≡ told_number fault.now }
     ensures line { answer.new.line ≡ line_of fault.now }
@@ -72,7 +72,7 @@ pub fn refuse(answer: &mut Answer, fault: &AuditFault) -> u32
     told_number(fault)
 }
 
-/// Tells of the refusal of a log, beside which there is no text.
+/// Returns the status of the refusal of a log, which leaves no text in the room.
 pub fn refuse_log(answer: &mut Answer, fault: ImportFault) -> u32
     ensures number { result ≡ number_of fault.kind }
     ensures line { answer.new.line ≡ fault.line }
@@ -83,7 +83,7 @@ pub fn refuse_log(answer: &mut Answer, fault: ImportFault) -> u32
     u32::from(fault.kind.number())
 }
 
-/// The number of a refusal.
+/// Returns the number of a refusal.
 fn told_number(fault: &AuditFault) -> u32
     ensures { result ≡ told_number fault.now }
 {
@@ -96,7 +96,7 @@ fn told_number(fault: &AuditFault) -> u32
     }
 }
 
-/// The line of a refusal, or 0.
+/// Returns the line of a refusal, or 0.
 fn line_of(fault: &AuditFault) -> u64
     ensures { result ≡ line_of fault.now }
 {
@@ -106,7 +106,7 @@ fn line_of(fault: &AuditFault) -> u64
     }
 }
 
-/// Tells that the numbers of a question name nothing.
+/// Returns the status of a question whose numbers name nothing.
 pub fn refuse_question(answer: &mut Answer, refusal: Refusal) -> u32
     ensures { IsUnasked refusal result answer.new }
 {

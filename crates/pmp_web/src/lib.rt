@@ -1,12 +1,12 @@
 //! The answers of the page, in the memory of a module that a browser runs.
 //!
-//! No function has a condition on what the rooms hold: whatever it is, the answer is defined. A script is the first
-//! bytes of its room, and an answer those of its own. The status is 0 where there is one, and else the number of the
-//! refusal, whose line stands in the answer's room, without a text. The definitions that the contracts cite are those
-//! of the program's answers, in `specs/` of `pmp_audit`.
+//! No function has a precondition on the contents of the rooms: the result is defined for all of them. A script is the
+//! first bytes of its room, and an answer the first bytes of its own. The status is 0 if there is an answer, and
+//! otherwise the number of the refusal, whose line is in the answer's room, without a text. The definitions that the
+//! contracts cite are those of the program's answers, in `specs/` of `pmp_audit`.
 //!
-//! An access is named as in the C library: by its mode (0 user, 1 supervisor, 3 machine), its kind (0 fetch, 1 load,
-//! 2 store), the byte address of its first byte, and its length in bytes.
+//! An access is named as in the C library: by its mode (0 U-mode, 1 S-mode, 3 M-mode), its kind (0 fetch, 1 load, 2
+//! store), the byte address of its first byte, and its length in bytes.
 #![tactic(auto)]
 
 ghost use Rattle.std.specs.Prelude.{Some};
@@ -31,7 +31,7 @@ use pmp_import::append_import;
 use pmp_text::{Refusal, When};
 pub use rooms::{Answer, Demand, Script};
 
-/// How many publications the script has, in decimal.
+/// Writes how many publications the script has, in decimal.
 #[unsafe(no_mangle)]
 pub extern "C" fn tilvenka_page_publications(script: &Script, answer: &mut Answer) -> u32
     ensures { let script = script_in script.now in
@@ -40,8 +40,8 @@ pub extern "C" fn tilvenka_page_publications(script: &Script, answer: &mut Answe
     tell!(answer, append_count(script.text(), answer))
 }
 
-/// What is shown after so many publications: 0 the runs as `pmp map` writes them, 1 their picture, 2 the entries, 3 the
-/// registers. A number that names nothing is told before the script is read, as 24.
+/// Writes a view after the given number of publications: 0 the runs as `pmp map` writes them, 1 their picture, 2 the
+/// entries, 3 the registers. A number that names nothing is refused as 24 before the script is read.
 #[unsafe(no_mangle)]
 pub extern "C" fn tilvenka_page_view(
     script: &Script,
@@ -66,7 +66,7 @@ pub extern "C" fn tilvenka_page_view(
     }
 }
 
-/// What each event of the script did to a register, as `pmp writes` writes it.
+/// Writes what each event of the script did to a register, like `pmp writes`.
 #[unsafe(no_mangle)]
 pub extern "C" fn tilvenka_page_writes(script: &Script, answer: &mut Answer) -> u32
     ensures { let script = script_in script.now in
@@ -76,8 +76,8 @@ pub extern "C" fn tilvenka_page_writes(script: &Script, answer: &mut Answer) -> 
     tell!(answer, append_writes(log, script.text(), answer))
 }
 
-/// One access after so many publications, as `pmp check` writes its row. Numbers that name no access are told before
-/// the script is read: 24 where the mode or the kind is none, 3 or 4 as `pmp check` refuses them.
+/// Decides one access after the given number of publications, and writes its row like `pmp check`. Numbers that name no
+/// access are refused before the script is read: 24 for an unknown mode or kind, 3 or 4 like `pmp check`.
 #[unsafe(no_mangle)]
 pub extern "C" fn tilvenka_page_check(
     script: &Script,
@@ -105,9 +105,9 @@ pub extern "C" fn tilvenka_page_check(
     }
 }
 
-/// The verdict on one row of a policy, as `pmp policy` writes it. Numbers that name nothing are told before the script
-/// is read, as 24; the row's own faults after it: 21 where `to` or `last` lies before its beginning, 22 where there are
-/// fewer publications, 4 where `last` is no byte.
+/// Writes the verdict on one row of a policy, like `pmp policy`. Numbers that name nothing are refused as 24 before the
+/// script is read; the row's own faults after it: 21 if `to` or `last` lies before its beginning, 22 if there are fewer
+/// publications, 4 if `last` is no byte.
 #[unsafe(no_mangle)]
 pub extern "C" fn tilvenka_page_verdict(
     script: &Script,
@@ -132,8 +132,8 @@ pub extern "C" fn tilvenka_page_verdict(
     }
 }
 
-/// Where the modes may do another thing after so many publications of the new script than after so many of the old one,
-/// as `pmp diff` writes it. To the number of a refusal of the new script 256 is added.
+/// Writes where the modes may do something else after one number of publications of the new script than after another
+/// of the old one, like `pmp diff`. 256 is added to the number of a refusal of the new script.
 #[unsafe(no_mangle)]
 pub extern "C" fn tilvenka_page_diff(
     old: &Script,
@@ -163,9 +163,9 @@ pub extern "C" fn tilvenka_page_diff(
     )
 }
 
-/// The script of a log, as `pmp import` writes it without options: 0 of QEMU's trace, 1 of gdb's registers, 2 of
-/// OpenOCD's, 3 of Spike's commits, 4 of a dump. The line of a refusal is the log's. A number that names no form is told
-/// before the log is read, as 24.
+/// Writes the script of a log, like `pmp import` without options: 0 for QEMU's trace, 1 for gdb's registers, 2 for
+/// OpenOCD's, 3 for Spike's commits, 4 for a dump. The line of a refusal is the log's. A number that names no format is
+/// refused as 24 before the log is read.
 #[unsafe(no_mangle)]
 pub extern "C" fn tilvenka_page_import(log: &Script, format: u32, answer: &mut Answer) -> u32
     ensures { AnswersImport (script_in log.now) (format_of format) result answer.new }

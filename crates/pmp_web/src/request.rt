@@ -1,4 +1,4 @@
-//! What the page asks, as numbers: an access, a view, a form of logs, or a row of a policy.
+//! The page's questions, as numbers: an access, a view, a log format, or a row of a policy.
 
 ghost use Rattle.std.specs.Prelude.{◌≡◌, IfErr, IfOk};
 ghost use Rattle.pmp_web.specs.Demand.{demand_of, kinds_of, modes_of, pace_of, question_of};
@@ -12,7 +12,7 @@ use pmp_import::Format;
 use pmp_map::{kind_of, mode_of};
 use pmp_text::{Coming, Kinds, Modes, PolicyFields, Refusal};
 
-/// The access that these numbers name.
+/// Returns the access that these numbers name.
 pub fn access_of(mode: u32, kind: u32, start: u64, length: u64) -> Result<Access, Refusal>
     ensures ok { IfOk result (λ access. IsNamed access mode kind start length) }
     ensures err { IfErr result (NamesNone mode kind start length) }
@@ -23,7 +23,7 @@ pub fn access_of(mode: u32, kind: u32, start: u64, length: u64) -> Result<Access
     Ok(Access::new(mode, kind, start, length)?)
 }
 
-/// What a number asks to be shown.
+/// Returns the view that a number names.
 pub fn view_of(number: u32) -> Option<View>
     ensures { result ≡ view_of number }
 {
@@ -36,7 +36,7 @@ pub fn view_of(number: u32) -> Option<View>
     }
 }
 
-/// The form of a log that a number names.
+/// Returns the log format that a number names.
 pub fn format_of(number: u32) -> Option<Format>
     ensures { result ≡ format_of number }
 {
@@ -104,7 +104,7 @@ fn pace_of(number: u32) -> Option<Pace>
     }
 }
 
-/// The row that these numbers name.
+/// Returns the row that these numbers name.
 pub fn question_of(room: &Demand) -> Option<Question>
     ensures { result ≡ question_of room.now }
 {

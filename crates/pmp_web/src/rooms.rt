@@ -5,14 +5,14 @@ ghost use Rattle.pmp_web.specs.Rooms.{script_in, text_in};
 
 use pmp_text::{MAX_SCRIPT, NoMemory, Sink};
 
-/// The most bytes of an answer.
+/// The greatest length of an answer in bytes.
 pub const MAX_ANSWER: usize = 1 << 21;
 
-/// The room of a script, which has as many bytes as the program reads.
+/// The room of a script, which is as large as the longest script that the program reads.
 #[repr(C)]
 #[derive(Clone, Copy)]
 pub struct Script {
-    /// How many bytes the script has. A greater number means all that there is room for.
+    /// The length of the script in bytes. A number above the size of the room means all of it.
     pub length: u64,
     pub bytes: [u8; MAX_SCRIPT],
 }
@@ -21,20 +21,20 @@ pub struct Script {
 #[repr(C)]
 #[derive(Clone, Copy)]
 pub struct Answer {
-    /// The line of the script's fault, or 0 where no line of a script is at fault.
+    /// The line of the script's fault, or 0 if no line of a script is at fault.
     pub line: u64,
-    /// How many bytes the answer has. A greater number means all that there is room for.
+    /// The length of the answer in bytes. A number above the size of the room means all of it.
     pub length: u64,
     pub bytes: [u8; MAX_ANSWER],
 }
 
-/// The room of what a row of a policy says, in numbers.
+/// The room for a policy's row, in numbers.
 #[repr(C)]
 #[derive(Clone, Copy)]
 pub struct Demand {
     /// The number of the row.
     pub number: u64,
-    /// The least number of publications that are done.
+    /// The smallest number of publications that are done.
     pub from: u64,
     /// The greatest number of publications that are done.
     pub to: u64,
@@ -42,9 +42,9 @@ pub struct Demand {
     pub first: u64,
     /// The byte address of the last byte.
     pub last: u64,
-    /// A bit for each mode, with the mode's number: bit 0 for user, 1 for supervisor, 3 for machine mode.
+    /// A bit for each mode, with the mode's number: bit 0 for U-mode, 1 for S-mode, 3 for M-mode.
     pub modes: u32,
-    /// 0 a fetch, 1 a load, 2 a store, 3 each of the three.
+    /// 0 for a fetch, 1 for a load, 2 for a store, 3 for all three.
     pub kind: u32,
     /// 0 never, 1 always, 2 held.
     pub demand: u32,
@@ -64,7 +64,7 @@ impl Answer {
 }
 
 impl Script {
-    /// The script.
+    /// Returns the script.
     pub fn text(&self) -> &[u8]
         ensures { result.now ≡ script_in self.now }
     {

@@ -14,8 +14,8 @@ use std::alloc::{AllocError, Global};
 use std::thread;
 use std::thread::Threads;
 
-/// Reports a piece as [`report_piece`] does, in so many parts at a time. A part is begun where it is likely to stand.
-/// Where it doesn't stand there, or isn't reported, the piece is reported as one part.
+/// Reports a piece as [`report_piece`] does, in `parts` parts at a time. Each part starts from its likely position. If
+/// that turns out wrong, or the part isn't reported, the piece is reported as one part.
 #[cycle(parts)]
 pub fn report_parts<T: Threads + Sync>(
     rt: &T,
@@ -54,7 +54,7 @@ pub fn report_parts<T: Threads + Sync>(
     }
 }
 
-/// The place of the first line's end in the second half.
+/// Returns the position of the first line end in the second half.
 fn middle_line_end(text: &[u8]) -> Option<usize>
     ensures { IfSome result (λ end. (end < length text.now) × (is_line_end (slice_index text.now end) ≡ true)) }
 {
@@ -66,7 +66,7 @@ fn middle_line_end(text: &[u8]) -> Option<usize>
     None
 }
 
-/// Where a part is likely to stand behind this text at a place: it does where each line of the text is a plain row.
+/// Returns the likely standing after this text, which is right if each line of the text is a plain row.
 fn likely_behind(moments: &Moments<'_>, place: Place, text: &[u8]) -> Standing
     ensures { result ≡ record { place = record result.place { bare = None }; faults = 0 } }
 {
@@ -85,7 +85,7 @@ fn likely_behind(moments: &Moments<'_>, place: Place, text: &[u8]) -> Standing
     }
 }
 
-/// How many publications the last line of a text asks for, where it is a plain row.
+/// Returns how many publications the last line of a text asks for, if it is a plain row.
 fn last_after(moments: &Moments<'_>, text: &[u8]) -> Option<u64> {
     let (_, lines) = text.split_last()?;
     let line = lines.iter().rposition(|byte| *byte == b'\n')?;
@@ -93,7 +93,7 @@ fn last_after(moments: &Moments<'_>, text: &[u8]) -> Option<u64> {
     moments.read_after(&lines[line + 1..line + end]).ok()
 }
 
-/// The reports of two parts as one, where both were made, and the back one from where the front one ends.
+/// Returns the reports of two parts as one, if both were made, and the second from where the first one ends.
 fn joined(
     front: Result<PieceReport, AuditFault>,
     middle: Standing,

@@ -16,7 +16,7 @@ use std::io::Read;
 use std::thread;
 use std::thread::Threads;
 
-/// Reports a piece, and takes the next one: by several jobs while the piece is reported.
+/// Reports a piece, and takes the next one, at the same time if there are several jobs.
 pub fn report_and_cut<T: Threads + Sync, R: Read>(
     rt: &T,
     alloc: Global,

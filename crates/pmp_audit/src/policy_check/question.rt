@@ -1,4 +1,4 @@
-//! What a row of a policy asks of the bytes of one owner.
+//! The question that a row of a policy asks about the bytes of one owner.
 
 ghost use Rattle.std.specs.Prelude.{◌≡◌, ◌<◌, ℕ, IfSome, Option, length};
 ghost use Rattle.pmp_core.specs.RegisterFile.{RegisterFile};
@@ -10,7 +10,7 @@ use pmp_core::{Kind, Mode, Perms, Registers};
 use pmp_map::{ModeRights, is_held};
 use pmp_text::{Demand, Kinds, PolicyRow};
 
-/// What a row of a policy asks of a byte of its range.
+/// The question that a row of a policy asks about a byte of its range.
 #[derive(Clone, Copy)]
 pub enum Question {
     /// Whether the row's demand is broken.
@@ -19,14 +19,14 @@ pub enum Question {
     IsNotHeld,
 }
 
-/// Whether the kind is one of these, and allowed, or not.
+/// Whether the kind is one of these, and is allowed if `allowed` is true, or refused if it is false.
 fn finds_kind(allowed: bool, rights: Perms, kinds: Kinds, kind: Kind) -> bool
     ensures { (given : Rights) → rights ≡ perms_of given → result ≡ finds_kind allowed given kinds kind }
 {
     kinds.has(kind) && rights.allows(kind) == allowed
 }
 
-/// Whether one of these kinds is allowed, or one isn't.
+/// Whether one of these kinds is allowed if `allowed` is true, or refused if it is false.
 fn finds_in(allowed: bool, rights: Perms, kinds: Kinds) -> bool
     ensures { (given : Rights) → rights ≡ perms_of given → result ≡ finds_in allowed given kinds }
 {
@@ -35,7 +35,7 @@ fn finds_in(allowed: bool, rights: Perms, kinds: Kinds) -> bool
         || finds_kind(allowed, rights, kinds, Kind::Store)
 }
 
-/// Whether the mode is one of the row's, and bytes of these rights are open to it by one of the row's kinds, or closed.
+/// Whether the mode is one of the row's, and these rights open, or close, bytes to it for one of the row's kinds.
 #[tactic(auto, using(pmp_map::proofs::KeptRights::rights_kept))]
 fn finds_mode(allowed: bool, rights: &ModeRights, row: &PolicyRow, mode: Mode) -> bool
     ensures { (file : RegisterFile) (owner : Option ℕ) → rights.now ≡ rights_by file owner
@@ -44,7 +44,7 @@ fn finds_mode(allowed: bool, rights: &ModeRights, row: &PolicyRow, mode: Mode) -
     row.modes.has(mode) && finds_in(allowed, rights.of(mode), row.kinds)
 }
 
-/// Whether the owner's bytes are open to one of the row's modes by one of its kinds, or closed.
+/// Whether the owner's bytes are open, or closed, to one of the row's modes for one of its kinds.
 fn finds_owned(allowed: bool, registers: &Registers<'_>, owner: Option<u8>, row: &PolicyRow) -> bool
     requires { IfSome owner (λ entry. entry < length registers.now.entries) }
     ensures { result ≡ finds_owned allowed registers.now owner row.now }
@@ -56,7 +56,7 @@ fn finds_owned(allowed: bool, registers: &Registers<'_>, owner: Option<u8>, row:
 }
 
 impl Question {
-    /// The answer for the bytes of this owner.
+    /// Returns the answer for the bytes of this owner.
     pub fn is_yes(self, registers: &Registers<'_>, owner: Option<u8>, row: &PolicyRow) -> bool
         requires { IfSome owner (λ entry. entry < length registers.now.entries) }
         ensures { result ≡ is_yes self registers.now owner row.now }

@@ -1,4 +1,4 @@
-//! Where a state of the register file breaks a row of a policy, first in address.
+//! The first address at which a state of the register file breaks a row of a policy.
 
 ghost use Rattle.pmp_audit.specs.PolicyCheck.{IsFirstOf};
 ghost use Rattle.pmp_audit.specs.PolicyQuestions.{IsYes};
@@ -8,8 +8,7 @@ use pmp_core::RegFile;
 use pmp_map::{Run, run_around};
 use pmp_text::PolicyRow;
 
-/// The first run of the row's range of which the answer is yes, from the first such byte on and as far as the range
-/// goes.
+/// Returns the first run in the row's range for which the answer is yes, cut to the range.
 pub fn first_run(file: &RegFile, row: &PolicyRow, question: Question) -> Option<Run>
     ensures { IsFirstOf file.now (IsYes question file.now row.now) row.now result }
 {

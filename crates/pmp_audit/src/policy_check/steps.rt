@@ -1,4 +1,4 @@
-//! The states of a register file that a policy asks of.
+//! The states of a register file that a policy asks about.
 
 ghost use Rattle.std.specs.Prelude.{◌≡◌, ◌+◌, ◌<◌, ◌≤◌, ◌^◌, [], length};
 ghost use Rattle.std.specs.List.{slice_index_or};
@@ -8,12 +8,12 @@ ghost use Rattle.pmp_audit.specs.PolicySweep.{IsStateOf};
 use pmp_core::{Event, RegFile, Span};
 use pmp_text::Script;
 
-/// How often a policy asks.
+/// How often a policy checks.
 #[derive(Clone, Copy, Debug, PartialEq, Eq)]
 pub enum Pace {
     /// After each publication.
     Publications,
-    /// After each event, since a hart takes its writes one by one.
+    /// After each event, because a hart executes its writes one by one.
     Events,
 }
 
@@ -30,12 +30,12 @@ pub struct State {
     /// How many steps are done.
     pub done: u64,
     pub file: RegFile,
-    /// Of the bytes outside nothing is decided otherwise than in the state before.
+    /// The span of bytes outside which every decision is the same as in the previous state.
     pub moved: Option<Span>,
 }
 
 impl<'a> Steps<'a> {
-    /// How many steps the first publications are.
+    /// Returns how many steps the given number of first publications have.
     pub fn count(&self, publications: u64) -> u64
         requires { publications ≤ length self.now.script.now.batches }
         ensures { result ≡ step_count self.now.pace self.now.script.now.batches publications }
@@ -46,7 +46,7 @@ impl<'a> Steps<'a> {
         }
     }
 
-    /// The events of the step with this index, from 0.
+    /// Returns the events of the step with this index, from 0.
     fn step(&self, index: u64) -> &'a [Event]
         requires { index < length (steps_of self.now.pace self.now.script.now.batches) }
         ensures { result.now ≡ slice_index_or (steps_of self.now.pace self.now.script.now.batches) index [] }
@@ -57,7 +57,7 @@ impl<'a> Steps<'a> {
         }
     }
 
-    /// The state before the first step.
+    /// Returns the state before the first step.
     pub fn start(&self) -> State
         ensures is { IsStateOf (state_after self.now.pace self.now.script.now) result }
         ensures done { result.done ≡ 0 }
@@ -69,7 +69,7 @@ impl<'a> Steps<'a> {
         }
     }
 
-    /// Does the next step.
+    /// Executes the next step.
     pub fn advance(&self, state: &mut State)
         requires inside { state.old.done < length (steps_of self.now.pace self.now.script.now.batches) }
         requires fits { state.old.done + 1 < 2 ^ 64 }

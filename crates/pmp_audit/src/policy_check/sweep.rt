@@ -16,13 +16,13 @@ use pmp_map::Run;
 use pmp_text::{Breach, Coming, Demand, PolicyRow, Verdict};
 use std::alloc::{AllocError, Global};
 
-/// A row of a policy, and its verdict as far as the states went.
+/// A row of a policy, and its verdict so far.
 #[derive(Clone, Copy)]
 pub struct Judged {
     pub row: PolicyRow,
-    /// How many steps are done in the first state that the row asks of.
+    /// How many steps are done in the first state that the row asks about.
     from: u64,
-    /// How many steps are done in the last state that the row asks of.
+    /// How many steps are done in the last state that the row asks about.
     to: u64,
     /// Its first breach, or none so far.
     verdict: Option<Breach>,
@@ -40,7 +40,7 @@ fn is_moved(row: &PolicyRow, moved: Option<Span>) -> bool
 }
 
 impl Judged {
-    /// The row before the first state.
+    /// Returns the row before the first state.
     pub fn new(steps: &Steps<'_>, row: &PolicyRow) -> Judged
         requires { row.now.to ≤ length steps.now.script.now.batches }
         ensures judged { IsJudged steps.now.pace steps.now.script.now 0 result }
@@ -54,7 +54,7 @@ impl Judged {
         }
     }
 
-    /// What the row comes to. One whose moments don't come is judged in the last state, and that isn't told.
+    /// Returns the verdict on the row. One whose moments don't come is judged in the last state, which isn't reported.
     pub fn told(&self) -> Verdict
         ensures { result ≡ told_of self.now }
     {
@@ -66,8 +66,8 @@ impl Judged {
         }
     }
 
-    /// The first run that breaks the row's demand in this state, where none did in the state before, if the row asked
-    /// of it: then only bytes that moved can.
+    /// Returns the first run that breaks the row's demand in this state, if none did in the previous one and the row
+    /// asked about that: then only bytes that moved can.
     #[inline(always)]
     fn broken_in(&self, state: &State) -> Option<Run>
         ensures { (self.now.from < state.now.done → (before : RegisterFile)
@@ -80,7 +80,7 @@ impl Judged {
         first_run(&state.file, &self.row, Question::IsBroken)
     }
 
-    /// The row's breach in this state, of which it asks, where it has none before.
+    /// Returns the row's breach in this state, about which it asks, if it has none before.
     #[inline(always)]
     fn breach_in(&self, state: &State) -> Option<Breach>
         requires { (self.now.from ≤ state.now.done) × (state.now.done ≤ self.now.to) }
@@ -99,7 +99,7 @@ impl Judged {
         None
     }
 
-    /// Asks for a breach in this state, unless there is one before, or the row doesn't ask of the state.
+    /// Looks for a breach in this state, unless there is one before, or the row doesn't ask about the state.
     #[inline(always)]
     fn ask(&mut self, state: &State)
         ensures judged { (pace : Pace) (script : ScriptContents) → IsStateOf (state_after pace script) state.now
@@ -112,7 +112,7 @@ impl Judged {
     }
 }
 
-/// Asks all rows for a breach in this state.
+/// Looks for a breach of each row in this state.
 fn ask_all(rows: &mut [Judged], state: &State)
     ensures judged { (pace : Pace) (script : ScriptContents) → IsStateOf (state_after pace script) state.now
         → All (IsJudged pace script state.now.done) rows.old
@@ -124,7 +124,7 @@ fn ask_all(rows: &mut [Judged], state: &State)
     }
 }
 
-/// The rows before the first state.
+/// Returns the rows before the first state.
 pub fn unjudged(
     alloc: Global,
     steps: &Steps<'_>,
@@ -141,8 +141,8 @@ pub fn unjudged(
     Ok(all)
 }
 
-/// Judges the rows in all states that they ask of. A state costs what its step may have moved: of the rows that have no
-/// breach only those that begin in it, or have such bytes, ask it.
+/// Judges the rows in all states that they ask about. A state costs what its step may have moved: only rows without a
+/// breach that begin in it, or have such bytes, are checked.
 pub fn judge(steps: &Steps<'_>, rows: &mut [Judged])
     requires { All (IsJudged steps.now.pace steps.now.script.now 0) rows.old }
     ensures judged { All (λ one. IsVerdict steps.now.pace steps.now.script.now one.row (told_of one)) rows.new }

@@ -1,4 +1,4 @@
-//! All rows of a trace, decided while the script's publications are done.
+//! All rows of a trace, decided while the script's publications are executed.
 
 ghost use Rattle.std.specs.Prelude.{◌≡◌, ◌<◌, ◌≤◌, [], ◌∷◌, ◌++◌, true, IfOk, IfErr, OnOk, All, length, map};
 ghost use Rattle.pmp_core.specs.declared.event.TheConstants.{BATCH_EVENTS};
@@ -37,7 +37,7 @@ fn publish<R: Wait>(rt: &R, publisher: &mut Publisher, events: &[Event]) -> Resu
     Ok(())
 }
 
-/// Decides the rows, each after the publications that it asks for, by a publisher and checkers of a new unit.
+/// Decides the rows, each after the publications that it asks for, with a publisher and checkers of a new unit.
 fn decide_rows<R: Threads + Wait + Sync, G: Gate + Sync>(
     rt: &R,
     alloc: Global,
@@ -76,7 +76,7 @@ fn decide_rows<R: Threads + Wait + Sync, G: Gate + Sync>(
     Ok(decided)
 }
 
-/// Decides the rows by `k` workers that share a unit, which has ended when the call answers.
+/// Decides the rows with `k` workers that share a unit, which has ended when the call returns.
 pub(crate) fn decide_shared<R: Threads + Wait + Sync, G: Gate + Sync>(
     rt: &R,
     alloc: Global,

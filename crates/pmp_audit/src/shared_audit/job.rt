@@ -1,4 +1,4 @@
-//! What a worker is given for one round, and what it brings back.
+//! The input of a worker for one round, and its result.
 
 ghost use Rattle.std.specs.Prelude.{◌≡◌};
 
@@ -15,8 +15,7 @@ pub(crate) struct Job {
     pub ghost same_unit: { notice.unit ≡ checker.unit },
 }
 
-/// The checker again, and the decisions of the worker's rows, in their order, each behind the row's number in the
-/// report.
+/// The returned checker, and the decisions on the worker's rows, in order, each after the row's number in the report.
 #[derive(Drop)]
 pub(crate) struct Done {
     pub checker: Checker,

@@ -1,4 +1,4 @@
-//! What workers bring back, put together again.
+//! The results of workers, merged.
 
 ghost use Rattle.std.specs.Prelude.{◌≡◌, ◌+◌, ◌<◌, ◌++◌, ◌⊎◌, IfOk, IfErr, List, OnOk, Ok, Err, Contains, length, map};
 ghost use Rattle.pmp_core.specs.declared.decision.Decision.{Decision};
@@ -11,7 +11,7 @@ use pmp_core::Decision;
 use pmp_share::Checker;
 use std::alloc::{AllocError, Global};
 
-/// What all workers bring back, or why the first of those that stopped did.
+/// Returns the results of all workers, or why the first of those that stopped did.
 pub(crate) fn all_done(
     alloc: Global,
     results: Vec<Result<Done, AuditFault>>,
@@ -36,8 +36,8 @@ pub(crate) fn checkers_of(alloc: Global, all: Vec<Done>) -> Result<Vec<Checker>,
     Ok(checkers)
 }
 
-/// Adds the decisions of one round's rows, of which there are so many, in the order of the rows, which are numbered
-/// behind those that are there.
+/// Adds the decisions on the given number of rows of one round, in the order of the rows, whose numbers follow those
+/// already there.
 pub(crate) fn merge(
     decided: &mut Vec<Decision>,
     all: &[Done],

@@ -1,4 +1,4 @@
-//! One round: the rows that ask for just what is published, decided by all workers.
+//! One round: the rows that ask for exactly what is published, decided by all workers.
 
 ghost use Rattle.std.specs.Prelude.{◌≡◌, ◌+◌, ◌^◌, ◌<◌, ◌≤◌, ◌++◌, IfOk, IfErr, OnOk, All, Any, length, drop};
 ghost use Rattle.pmp_share.specs.declared.fault.ShareFault.TheVariants.{Full};
@@ -20,7 +20,7 @@ use std::alloc::Global;
 use std::sync::Wait;
 use std::thread::Threads;
 
-/// A job for each checker, with a notice of what is published. The workers are numbered in the checkers' order.
+/// Returns a job for each checker, with a notice of what is published. The workers are numbered in the checkers' order.
 fn jobs_of(
     alloc: Global,
     publisher: &mut Publisher,
@@ -45,8 +45,8 @@ fn jobs_of(
     Ok(jobs)
 }
 
-/// Lets all workers decide these rows in what is published, adds the decisions in the order of the rows, and gives the
-/// checkers back. All workers have ended then.
+/// Has all workers decide these rows in what is published, adds the decisions in the order of the rows, and returns the
+/// checkers. All workers have then ended.
 fn round<R: Threads + Wait + Sync, G: Gate + Sync>(
     rt: &R,
     alloc: Global,
@@ -74,8 +74,8 @@ fn round<R: Threads + Wait + Sync, G: Gate + Sync>(
     Ok(checkers_of(alloc, all)?)
 }
 
-/// Decides the next rows, as far as they ask for just `after` publications, which are done, by no more workers than
-/// there are such rows: a checker for which there is no row gets no job, and where there is none, no worker is started.
+/// Decides the next rows, as far as they ask for exactly `after` publications, which are done, with no more workers
+/// than such rows: a checker without a row gets no job, and without rows no worker is started.
 pub(crate) fn decide_asking<R: Threads + Wait + Sync, G: Gate + Sync>(
     rt: &R,
     alloc: Global,

@@ -1,4 +1,4 @@
-//! The jobs of one round, done on threads, or in turn where they are small.
+//! The jobs of one round, run on threads, or in turn if they are small.
 
 ghost use Rattle.std.specs.Prelude.{◌+◌, ◌^◌, ◌<◌, ◌≤◌, IfOk, length};
 ghost use Rattle.pmp_share.specs.declared.opening.TheConstants.{CHECKERS};
@@ -13,11 +13,11 @@ use std::alloc::{AllocError, Global};
 use std::thread;
 use std::thread::Threads;
 
-/// In about the time that a thread takes to start, a worker decides so many rows.
+/// The number of rows that a worker decides in about the time that a thread takes to start.
 const FEW: usize = 512;
 
-/// Does the jobs of all workers: each on a thread of its own, or in turn where these have few rows and don't wait for
-/// one another. All have ended then.
+/// Runs the jobs of all workers: each on a thread of its own, or in turn if these have few rows and don't wait for one
+/// another. All have then ended.
 pub(crate) fn run_jobs<R: Threads + Sync, G: Gate + Sync>(
     rt: &R,
     alloc: Global,

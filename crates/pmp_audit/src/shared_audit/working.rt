@@ -1,4 +1,4 @@
-//! A worker: it decides its rows of one round, in just what its notice tells of.
+//! A worker: it decides its rows of one round, in exactly what its notice reports.
 
 ghost use Rattle.std.specs.Prelude.{◌≡◌, ◌+◌, ◌^◌, ◌<◌, ◌≤◌, OnOk, IfOk, IfErr, length};
 ghost use Rattle.pmp_core.specs.Ranges.{decision_of};
@@ -15,7 +15,7 @@ use pmp_share::{Checker, Moved};
 use pmp_text::Row;
 use std::alloc::Global;
 
-/// Decides the row in this file, which `count` events that the checker learnt of give, if no more events are published.
+/// Decides the row in this file, given by `count` events that the checker learnt of, if no more events are published.
 fn ask(checker: &mut Checker, count: u64, file: &RegFile, row: &Row) -> Result<Decision, Moved>
     requires { HasLearnt checker.old count file.now }
     ensures unit { checker.new.unit ≡ checker.old.unit }
@@ -30,8 +30,8 @@ fn ask(checker: &mut Checker, count: u64, file: &RegFile, row: &Row) -> Result<D
     Ok(decision)
 }
 
-/// Does the job of one of so many workers: learns its notice, and decides in what that tells of, which the checker then
-/// has looked at, and no more, the worker's rows of a round. These are those whose place, from 0, modulo the number of
+/// Does the job of one of several workers: learns its notice, and decides its rows of a round in exactly what the
+/// notice reports and the checker has seen, and no more. These are the rows whose index, from 0, modulo the number of
 /// workers is the worker's; the first row has the number `first`. After each row it passes the gate.
 pub(crate) fn work<G: Gate>(
     alloc: Global,

@@ -8,7 +8,7 @@ use arrayvec::ArrayVec;
 use pmp_core::Event;
 use std::alloc::{AllocError, Global};
 
-/// A store for each thing that is kept.
+/// A store for each kind of thing that is kept.
 #[derive(Drop)]
 pub struct Log<E, L, P, X, M> {
     events: E,
@@ -21,7 +21,7 @@ pub struct Log<E, L, P, X, M> {
 /// A log of events that grows.
 pub type GrowingLog = Log<Vec<Event>, Vec<u64>, Vec<usize>, Vec<Expectation>, Vec<Mark>>;
 
-/// A log of events that never asks for memory, for so many events, publications, expectations and moments with names.
+/// A log of events that never asks for memory, of fixed size for events, publications, expectations and marks.
 pub type FixedLog<
     const EVENTS: usize,
     const PUBLICATIONS: usize,
@@ -36,7 +36,7 @@ pub type FixedLog<
 >;
 
 impl GrowingLog {
-    /// An empty log.
+    /// Returns an empty log.
     pub fn new(alloc: Global) -> Self {
         Log {
             events: Vec::new(alloc),
@@ -54,7 +54,7 @@ impl<
     const EXPECTATIONS: usize,
     const MARKS: usize,
 > FixedLog<EVENTS, PUBLICATIONS, EXPECTATIONS, MARKS> {
-    /// An empty log.
+    /// Returns an empty log.
     pub fn new() -> Self {
         Log {
             events: ArrayVec::new(),

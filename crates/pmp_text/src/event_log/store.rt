@@ -1,11 +1,11 @@
-//! What values of one type are kept in.
+//! Stores for the values of one type.
 
 ghost use Rattle.std.specs.Prelude.{◌≡◌, ◌++◌, ◌∷◌, [], List, OnErr, OnOk, take};
 
 use arrayvec::ArrayVec;
 use std::alloc::AllocError;
 
-/// A vector that grows, or an array that may be full.
+/// A vector that grows, or an array that may become full.
 pub trait Store<T> {
     ghost items: { Self → List T };
 
@@ -14,11 +14,11 @@ pub trait Store<T> {
         ensures ok { OnOk result (items self.new ≡ items self.old ++ item ∷ []) }
         ensures err { OnErr result (items self.new ≡ items self.old) };
 
-    /// Keeps so many values, and forgets what stands behind them.
+    /// Keeps the given number of values, and forgets those after them.
     fn keep(&mut self, count: usize)
         ensures { items self.new ≡ take count (items self.old) };
 
-    /// All values.
+    /// Returns all values.
     fn as_slice(&self) -> &[T]
         ensures { result.now ≡ items self.now };
 }

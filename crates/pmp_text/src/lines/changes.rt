@@ -1,4 +1,4 @@
-//! Where two register files differ in what they let the modes do with bytes, or in how they lock them, as rows.
+//! The rows that say where two register files differ in what they let the modes do with bytes, or how they lock them.
 
 ghost use Rattle.std.specs.Prelude.{◌≡◌, ◌++◌, IfOk, OnOk, OnErr, is_some, not};
 ghost use Rattle.pmp_text.specs.Changes.{asked_change, asked_row, byte_lock_text, change_by, change_of, change_text};
@@ -23,12 +23,12 @@ pub enum Change {
     Both,
 }
 
-/// Which changes of rights are asked for, where not all are.
+/// Which changes of rights are wanted, if not all.
 #[derive(Clone, Copy, Debug, PartialEq, Eq)]
 pub enum Only {
-    /// Those by which something is gained.
+    /// Those that gain something.
     More,
-    /// Those by which something is lost.
+    /// Those that lose something.
     Less,
 }
 
@@ -41,14 +41,14 @@ fn has_beyond(one: Perms, other: Perms) -> bool
         || one.allows(Kind::Fetch) && !other.allows(Kind::Fetch)
 }
 
-/// The same of some mode.
+/// Whether some mode has such a right.
 fn goes_beyond(one: &ModeRights, other: &ModeRights) -> bool
     ensures { result ≡ goes_beyond one.now other.now }
 {
     has_beyond(one.machine, other.machine) || has_beyond(one.others, other.others)
 }
 
-/// How the files differ in what they let the modes do, if they do.
+/// Returns how the files differ in what they let the modes do, if they do.
 fn change_of(old: &ModeRights, new: &ModeRights) -> Option<Change>
     ensures { result ≡ change_of old.now new.now }
 {
@@ -80,7 +80,7 @@ fn change_word(change: Change) -> &'static str
     }
 }
 
-/// The word of how bytes are locked: that of an entry's lock, or `held`.
+/// Returns the word for how bytes are locked: that of an entry's lock, or `held`.
 fn byte_lock_word(lock: ByteLock) -> &'static str
     ensures { result.now ≡ byte_lock_text lock }
 {
@@ -140,7 +140,7 @@ fn append_locks<S: Sink>(
     append_line(out, format_args!("{first},{last},{old},{new}\n"))
 }
 
-/// Appends the row of a run of rights, where they differ as is asked, and answers whether it has one.
+/// Appends the row of a run of rights, if it has a wanted difference, and returns whether it has.
 fn write_rights<S: Sink>(
     out: &mut S,
     run: &ComparedRun,
@@ -162,7 +162,7 @@ fn write_rights<S: Sink>(
     }
 }
 
-/// Appends the row of a run of locks, where they differ, and answers whether it has one.
+/// Appends the row of a run of locks, if they differ, and returns whether it has one.
 fn write_locks<S: Sink>(
     out: &mut S,
     run: &ComparedRun,
@@ -181,10 +181,10 @@ fn write_locks<S: Sink>(
     Ok(true)
 }
 
-/// Appends the row of a run where the files differ, and answers whether it has one: the first and the last byte in
-/// fourteen hexadecimal digits, and LF behind the rest. Of rights, if they differ as is asked, that is
-/// `FIRST,LAST,MOLD,SUOLD,MNEW,SUNEW,CHANGE`: what the old file lets machine mode do there and what the other two, the
-/// same of the new, and how they differ; of locks `FIRST,LAST,LOCKOLD,LOCKNEW`.
+/// Appends the row of a run if the files differ, and returns whether it has one: the first and the last byte in
+/// fourteen hexadecimal digits, then the rest and LF. For rights with a wanted difference the row is
+/// `FIRST,LAST,MOLD,SUOLD,MNEW,SUNEW,CHANGE`: what the old file lets M-mode do there, and S-mode and U-mode, the same
+/// for the new file, and how they differ; for locks it is `FIRST,LAST,LOCKOLD,LOCKNEW`.
 #[tactic(auto, unfolding(crate::specs::Changes::asked_row, crate::specs::Changes::has_row))]
 pub fn write_change<S: Sink>(
     out: &mut S,

@@ -1,4 +1,4 @@
-//! What each event of a script does to a register, as rows.
+//! The rows that say what each event of a script does to a register.
 
 ghost use Rattle.std.specs.Prelude.{◌≡◌, ◌++◌, [], if◌then◌else◌, codes, IfOk, OnOk, OnErr, Some};
 ghost use Rattle.pmp_core.specs.declared.event.Event.TheVariants as event;
@@ -15,14 +15,14 @@ use crate::sink::Sink;
 use pmp_core::{Csr, Event, RegFile, Registers, WriteReason};
 use std::fmt;
 
-/// Where an event stands in a script.
+/// The position of an event in a script.
 #[derive(Clone, Copy)]
 pub struct EventPlace {
-    /// The number of the event among all, from 1 on.
+    /// The number of the event among all, from 1.
     pub number: u64,
-    /// The number of its publication, from 1 on.
+    /// The number of its publication, from 1.
     pub publication: u64,
-    /// The number of its line, from 1 on.
+    /// The number of its line, from 1.
     pub line: u64,
 }
 
@@ -54,7 +54,7 @@ fn reason_word(reason: WriteReason) -> &'static str
     }
 }
 
-/// What parts a word from the one before it.
+/// Returns what separates a word from the previous one.
 fn space_unless(is_first: bool) -> &'static str
     ensures { result.now ≡ (if is_first then [] else codes " ") }
 {
@@ -77,7 +77,7 @@ struct Write<'a> {
     value: u64,
 }
 
-/// The reasons why the register doesn't read the value, parted by one space.
+/// The reasons why the register doesn't read the value, separated by one space.
 #[derive(Clone, Copy)]
 struct Reasons<'a>(Write<'a>);
 
@@ -99,7 +99,7 @@ impl<'a> fmt::Display for Reasons<'a> {
     }
 }
 
-/// The entries that turn the value away, parted by one space.
+/// The entries that reject the value, separated by one space.
 #[derive(Clone, Copy)]
 struct Entries<'a>(Write<'a>);
 
@@ -148,10 +148,10 @@ impl<'a> fmt::Display for Effect<'a> {
     }
 }
 
-/// Appends the row of an event that comes to this register file: `N,PUBLICATION,LINE,REGISTER,WRITTEN,BEFORE,AFTER,`
-/// `EFFECT,REASONS,ENTRIES` and LF. EFFECT is `stored` where the register then reads what was written, `ignored` where
-/// it reads what it read before, and else `altered`. A reset has `reset` for REGISTER and EFFECT, and nothing for what
-/// a write has besides. Answers the file that the event leaves.
+/// Appends the row of an event that meets this register file: `N,PUBLICATION,LINE,REGISTER,WRITTEN,BEFORE,AFTER,`
+/// `EFFECT,REASONS,ENTRIES` and LF. EFFECT is `stored` if the register then reads what was written, `ignored` if it
+/// reads what it read before, and otherwise `altered`. A reset has `reset` for REGISTER and EFFECT, and the other
+/// fields of a write empty. Returns the file that the event leaves.
 #[tactic(auto, unfolding(crate::specs::Effects::effect_row))]
 pub fn write_effect<S: Sink>(
     out: &mut S,

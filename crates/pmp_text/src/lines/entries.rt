@@ -103,10 +103,9 @@ fn write_all<S: Sink>(out: &mut S, file: &RegFile, since: &[Since]) -> Result<()
 /// Appends a row for each entry, `ENTRY,MATCHING,FIRST,LAST,MRIGHTS,SURIGHTS,LOCK,ADDRESS,SINCE,HOLDS` and LF.
 ///
 /// MATCHING says how the address register is read. FIRST and LAST are the ends of the bytes that the entry matches, in
-/// fourteen hexadecimal digits, or dashes. MRIGHTS and SURIGHTS are what its rule gives machine mode and the other two.
-/// LOCK is `frozen` where writes leave the entry as it is, and `bypassed` where they would but for rule-locking bypass;
-/// ADDRESS is `frozen` where they leave its address register as it is. SINCE and HOLDS are the numbers in `since`, if
-/// any.
+/// fourteen hexadecimal digits, or dashes. MRIGHTS and SURIGHTS are what its rule gives M-mode, and S-mode and U-mode.
+/// LOCK is `frozen` if writes leave the entry as it is, and `bypassed` if they would without RLB; ADDRESS is `frozen`
+/// if they leave its address register as it is. SINCE and HOLDS are the numbers in `since`, if any.
 #[inline(never)]
 pub fn write_entries<S: Sink>(out: &mut S, file: &RegFile, since: &[Since]) -> Result<(), NoMemory>
     requires { length file.now.entries ≤ length since.now }

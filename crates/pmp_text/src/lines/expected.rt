@@ -1,4 +1,4 @@
-//! The rows of what a script expects of registers.
+//! The rows for what a script expects of registers.
 
 ghost use Rattle.std.specs.Prelude.{◌≡◌, ◌++◌, OnErr, OnOk};
 ghost use Rattle.pmp_text.specs.Expected.{expected_row, expected_text};
@@ -19,7 +19,7 @@ fn expected_word(expected: u64, value: u64) -> &'static str
     }
 }
 
-/// Appends the row of what is expected of a register that reads this value: `,,LINE,REGISTER,EXPECTED,,VALUE,` and
+/// Appends the row for what is expected of a register that reads this value: `,,LINE,REGISTER,EXPECTED,,VALUE,` and
 /// `expected` or `differs`, `,,` and LF, in the fields of an event's row.
 #[tactic(auto, unfolding(crate::specs::Expected::expected_row))]
 pub fn write_expected<S: Sink>(

@@ -1,4 +1,4 @@
-//! Fields of CSV that have any bytes.
+//! CSV fields of arbitrary bytes.
 
 ghost use Rattle.std.specs.Prelude.{◌≡◌, ◌++◌, ◌∷◌, [], OnErr, OnOk, codes};
 ghost use Rattle.std.specs.Io.{StartsWith};
@@ -9,7 +9,7 @@ use crate::trace::is_apart;
 use std::alloc::AllocError;
 use std::slice;
 
-/// A byte as it stands between quotes: a quote is doubled.
+/// Returns a byte as it is written between quotes: a quote is doubled.
 #[tactic(auto, unfolding(csv::specs::Writing::escaped))]
 fn escaped_byte(byte: &u8) -> &[u8]
     ensures { result.now ≡ escaped default_writer (byte.now ∷ []) }
@@ -20,7 +20,7 @@ fn escaped_byte(byte: &u8) -> &[u8]
     }
 }
 
-/// Appends what stands between the quotes of a field, or a beginning of it.
+/// Appends the text between the quotes of a field, or a prefix of it.
 fn append_escaped<S: Sink>(out: &mut S, field: &[u8]) -> Result<(), AllocError>
     ensures ok { OnOk result (S.text out.new ≡ S.text out.old ++ escaped default_writer field.now) }
     ensures err { OnErr result (StartsWith (S.text out.new) (S.text out.old)) }
@@ -31,14 +31,14 @@ fn append_escaped<S: Sink>(out: &mut S, field: &[u8]) -> Result<(), AllocError>
     Ok(())
 }
 
-/// Whether a reader of CSV would part a field that stands without quotes.
+/// Whether a CSV reader would split a field written without quotes.
 fn needs_quotes(field: &[u8]) -> bool
     ensures { result ≡ needs_quotes default_writer field.now }
 {
     field.iter().any(|byte| is_apart(*byte))
 }
 
-/// Appends a comma and a field, which stands in quotes where it needs them, or a beginning of both.
+/// Appends a comma and a field, in quotes if it needs them, or a prefix of both.
 pub fn append_field<S: Sink>(out: &mut S, field: &[u8]) -> Result<(), AllocError>
     ensures ok { OnOk result
         (S.text out.new ≡ S.text out.old ++ (codes "," ++ field_text default_writer field.now)) }

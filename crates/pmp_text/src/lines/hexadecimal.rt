@@ -6,10 +6,10 @@ ghost use Rattle.pmp_text.specs.Effects.{value_text};
 
 use std::fmt;
 
-/// How many hexadecimal digits a byte address has, which is one of 56 bits.
+/// How many hexadecimal digits a byte address of 56 bits has.
 pub const ADDRESS_DIGITS: usize = 14;
 
-/// How many a register's value has.
+/// How many hexadecimal digits a register's value has.
 pub const VALUE_DIGITS: usize = 16;
 
 fn hex_digit(digit: u8) -> char
@@ -23,7 +23,7 @@ fn hex_digit(digit: u8) -> char
     })
 }
 
-/// The lowest so many hexadecimal digits of a number, the highest of them first.
+/// The given number of lowest hexadecimal digits of a number, the highest of them first.
 #[derive(Clone, Copy)]
 pub struct Hex<const DIGITS: usize> {
     value: u64,

@@ -7,14 +7,14 @@ use pmp_core::{Kind, Perms};
 use pmp_map::ModeRights;
 use std::fmt;
 
-/// A letter where a right is given, and else a dash.
+/// Returns a letter if the right is given, and otherwise a dash.
 fn mark(given: bool, letter: &'static str) -> &'static str
     ensures { result.now ≡ (if given then letter.now else codes "-") }
 {
     if given { letter } else { "-" }
 }
 
-/// `r`, `w` and `x`, each where the right is there.
+/// `r`, `w` and `x`, each if the right is there.
 #[derive(Clone, Copy)]
 pub struct Marks(pub Perms);
 
@@ -30,7 +30,7 @@ impl fmt::Display for Marks {
     }
 }
 
-/// The marks of machine mode, a comma and those of the other two.
+/// The marks of M-mode, a comma and those of S-mode and U-mode.
 #[derive(Clone, Copy)]
 pub struct ModeMarks(pub ModeRights);
 

@@ -13,15 +13,15 @@ use crate::sink::Sink;
 use pmp_core::{Csr, Hart, RegFile};
 use std::fmt;
 
-/// The most bytes of the lines of all registers, of which RV32 has eighty-one.
+/// The greatest length of the lines of all registers, eighty-one on RV32, in bytes.
 const MOST: usize = 4096;
 
-/// What lines say of registers.
+/// What lines say about registers.
 #[derive(Clone, Copy)]
 pub enum Form {
     /// What a register reads.
     Dump,
-    /// What a register keeps, for a script to set it to, where it isn't zero, as a reset leaves it.
+    /// What a register keeps, for a script to set it to, unless it is zero, as after a reset.
     Script,
 }
 
@@ -74,7 +74,7 @@ impl<'a> Lines<'a> {
     }
 }
 
-/// How many configuration registers hold the bytes of so many entries.
+/// Returns how many configuration registers hold the bytes of the given number of entries.
 fn registers_for(hart: &Hart, entries: u8) -> u8
     requires { entries ≤ MAX_ENTRIES }
     ensures count { result ≡ div_ceil entries (bytes_in hart.now 0) }
@@ -87,7 +87,7 @@ fn registers_for(hart: &Hart, entries: u8) -> u8
     }
 }
 
-/// The configuration register in this place among those that the hart has.
+/// Returns the configuration register with this index among those that the hart has.
 pub(crate) fn cfg_at(hart: &Hart, place: u8) -> Csr
     requires { place < 128 }
     ensures { result ≡ cfg_at hart.now place }
@@ -114,7 +114,7 @@ impl<'a> fmt::Display for Lines<'a> {
     }
 }
 
-/// Appends a line for each register: its name, a blank, `0x` and sixteen hexadecimal digits.
+/// Appends a line for each register: its name, a space, `0x` and sixteen hexadecimal digits.
 #[inline(never)]
 #[tactic(auto, unfolding(crate::specs::Dumps::dump_text))]
 pub fn write_registers<S: Sink>(out: &mut S, file: &RegFile) -> Result<(), NoMemory>

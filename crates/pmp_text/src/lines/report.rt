@@ -10,11 +10,11 @@ use arrayvec::ArrayVec;
 use itoa::Buffer;
 use pmp_core::{Access, Cause, Decision, fault_code};
 
-/// The room that is made for a row, which has at most 41 bytes.
+/// The room for a row, which has at most 41 bytes.
 const ROW: usize = 64;
 
-/// Appends the row of an access with this number: `NUMBER,ANSWER,FAULT,CAUSE,ENTRY` and LF. FAULT, an exception
-/// code, is empty where the access is allowed, and ENTRY where no entry matches.
+/// Appends the row of an access with this number: `NUMBER,ANSWER,FAULT,CAUSE,ENTRY` and LF. FAULT, an exception code,
+/// is empty if the access is allowed, and ENTRY if no entry matches.
 pub fn write_row<S: Sink>(
     out: &mut S,
     n: u64,
@@ -28,7 +28,7 @@ pub fn write_row<S: Sink>(
     out.append(row.as_slice())
 }
 
-/// The row by itself.
+/// Returns the row by itself.
 #[inline]
 fn row_of(n: u64, access: &Access, decision: &Decision) -> ArrayVec<u8, ROW>
     ensures { result.items ≡ report_row n access.now decision.now }
@@ -43,7 +43,7 @@ fn row_of(n: u64, access: &Access, decision: &Decision) -> ArrayVec<u8, ROW>
     row
 }
 
-/// Appends a text for which there is room.
+/// Appends a text that there is room for.
 fn append_reserved(row: &mut ArrayVec<u8, ROW>, text: &[u8])
     requires { array_vec_len row.old + length text.now ≤ ROW }
     ensures text { row.new.items ≡ row.old.items ++ text.now }
@@ -52,7 +52,7 @@ fn append_reserved(row: &mut ArrayVec<u8, ROW>, text: &[u8])
     let _ = row.try_extend_from_slice(text);
 }
 
-/// Appends a number for which there is room, or nothing.
+/// Appends a number that there is room for, or nothing.
 fn append_number(row: &mut ArrayVec<u8, ROW>, number: Option<u8>)
     requires { array_vec_len row.old + 3 ≤ ROW }
     ensures text { row.new.items ≡ row.old.items ++ optional_text number }
@@ -63,7 +63,7 @@ fn append_number(row: &mut ArrayVec<u8, ROW>, number: Option<u8>)
     }
 }
 
-/// What is answered, between commas.
+/// Returns the answer, between commas.
 fn answer_field(allowed: bool) -> &'static [u8]
     ensures text { result.now ≡ codes "," ++ (answer_text allowed ++ codes ",") }
     ensures short { length result.now ≤ 7 }
@@ -71,7 +71,7 @@ fn answer_field(allowed: bool) -> &'static [u8]
     if allowed { b",allow," } else { b",fault," }
 }
 
-/// Why, between commas.
+/// Returns the cause, between commas.
 fn cause_field(cause: Cause) -> &'static [u8]
     ensures text { result.now ≡ codes "," ++ (cause_text cause ++ codes ",") }
     ensures short { length result.now ≤ 7 }

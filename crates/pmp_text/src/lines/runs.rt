@@ -13,7 +13,7 @@ use pmp_core::{RegFile, Registers};
 use pmp_map::{ModeRights, Run, RunMap};
 use std::fmt;
 
-/// The number of a run's owner, or a dash where it has none.
+/// The number of a run's owner, or a dash if it has none.
 #[derive(Clone, Copy)]
 pub struct Owner(pub Option<u8>);
 
@@ -28,7 +28,7 @@ impl fmt::Display for Owner {
     }
 }
 
-/// The most bytes of the lines of all runs.
+/// The greatest length of the lines of all runs, in bytes.
 const MOST: usize = 8192;
 
 /// The lines of runs, whose owners are entries.
@@ -56,7 +56,7 @@ impl<'a> fmt::Display for RunLines<'a> {
 
 /// Appends a line for each run of the register file, `FIRST,LAST,OWNER,MRIGHTS,SURIGHTS` and LF: the first and the last
 /// byte in fourteen hexadecimal digits, the lowest-numbered entry that matches them or a dash, and what that gives
-/// machine mode and the other two. The map is the one that was built from this file.
+/// M-mode, and S-mode and U-mode. The map is the one built from this file.
 #[inline(never)]
 pub fn write_runs<S: Sink>(out: &mut S, file: &RegFile, map: &RunMap) -> Result<(), NoMemory>
     requires { map.now ≡ file.now }

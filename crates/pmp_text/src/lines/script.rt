@@ -11,10 +11,10 @@ use crate::sink::Sink;
 use arrayvec::ArrayString;
 use pmp_core::{Hart, RegFile};
 
-/// The most bytes of a script that sets each register of sixty-four entries.
+/// The greatest length in bytes of a script that sets each register of sixty-four entries.
 const SCRIPT: usize = 4096;
 
-/// How many bytes a grain has.
+/// Returns the grain in bytes.
 fn grain_bytes(hart: &Hart) -> u32
     ensures { result ≡ 2 ^ (hart.now.grain + 2) }
 {
@@ -27,7 +27,7 @@ fn smepmp_word(has_smepmp: bool) -> &'static str
     if has_smepmp { "yes" } else { "no" }
 }
 
-/// The line that says XLEN, of RV32 alone.
+/// Returns the line that gives XLEN, only for RV32.
 #[tactic(auto, unfolding(crate::specs::GivenBack::xlen_line))]
 fn xlen_line(hart: &Hart) -> &'static str
     ensures { result.now ≡ xlen_line hart.now }
@@ -39,7 +39,7 @@ fn xlen_line(hart: &Hart) -> &'static str
     }
 }
 
-/// The script by itself.
+/// Returns the script by itself.
 #[tactic(auto, unfolding(crate::specs::GivenBack::script_text))]
 fn script_of(file: &RegFile) -> Result<ArrayString<SCRIPT>, NoMemory>
     ensures { IfOk result (λ text. text.bytes ≡ script_text file.now) }
@@ -57,14 +57,14 @@ fn script_of(file: &RegFile) -> Result<ArrayString<SCRIPT>, NoMemory>
     ))
 }
 
-/// Whether the files are one, by all that they keep.
+/// Whether the files are equal in everything they keep.
 fn is_same(one: &RegFile, other: &RegFile) -> bool
     ensures { IsTrue result → one.now ≡ other.now }
 {
     one.save() == other.save()
 }
 
-/// Whether the text is read as a script that begins with this register file, publishes nothing and expects nothing.
+/// Whether the text reads as a script that begins with this register file, publishes nothing and expects nothing.
 fn gives_back(text: &[u8], file: &RegFile) -> bool
     requires { text.now ≡ script_text file.now }
     ensures { IsTrue result → GivesBack file.now text.now }
@@ -76,9 +76,9 @@ fn gives_back(text: &[u8], file: &RegFile) -> bool
     is_same(&script.start(), file) && script.batches() == 0 && script.expectations().is_empty()
 }
 
-/// Appends a script of version 3 that begins with this register file, and does nothing: what the hart is, and a line
-/// for each register that doesn't keep zero. Reading it gives the file: it is read back before it is appended, and one
-/// that gave another file would not be.
+/// Appends a script of version 3 that begins with this register file, and does nothing: the hart, and a line for each
+/// register that doesn't keep zero. Reading it gives the file: it is read back before it is appended, and would not be
+/// appended if it gave another file.
 #[inline(never)]
 pub fn write_script<S: Sink>(out: &mut S, file: &RegFile) -> Result<(), NoMemory>
     ensures ok { OnOk result ((text : List ℕ) × GivesBack file.now text

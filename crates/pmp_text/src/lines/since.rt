@@ -1,4 +1,4 @@
-//! Since when an entry is frozen, and since when it is held.
+//! The moments since which an entry is frozen, and since which it is held.
 
 ghost use Rattle.std.specs.Prelude.{Some};
 ghost use Rattle.pmp_text.specs.EntryRows.{since_text};
@@ -6,7 +6,7 @@ ghost use Rattle.pmp_text.specs.Reports.{optional_text};
 
 use std::fmt;
 
-/// A field that is empty where there is no number.
+/// A field that is empty if there is no number.
 #[derive(Clone, Copy)]
 struct Number(Option<u64>);
 
@@ -21,12 +21,12 @@ impl fmt::Display for Number {
     }
 }
 
-/// Numbers of publications since which an entry is as it is, with none where it isn't so.
+/// The numbers of the publications since which an entry is frozen and held, none where it isn't.
 #[derive(Clone, Copy)]
 pub struct Since {
-    /// The entry is frozen.
+    /// Since when the entry is frozen.
     pub frozen: Option<u64>,
-    /// The entry is held: it and all entries before it are frozen.
+    /// Since when the entry is held: it and all entries before it are frozen.
     pub held: Option<u64>,
 }
 

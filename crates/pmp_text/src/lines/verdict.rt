@@ -15,27 +15,27 @@ use crate::sink::Sink;
 use pmp_map::Run;
 use std::alloc::AllocError;
 
-/// Where a row of a policy doesn't hold.
+/// A breach: where a row of a policy doesn't hold.
 #[derive(Clone, Copy, Debug, PartialEq, Eq)]
 pub struct Breach {
-    /// How many publications were done, or events where the demand speaks of these.
+    /// How many publications were done, or events if the demand counts these.
     pub done: u64,
-    /// The bytes for which it doesn't hold, and the entry that decides for them.
+    /// The bytes for which it doesn't hold, and the entry that decides them.
     pub run: Run,
 }
 
-/// What a row of a policy comes to.
+/// The verdict on a row of a policy.
 #[derive(Clone, Copy, Debug, PartialEq, Eq)]
 pub enum Verdict {
     Holds,
     /// Its first breach, in time and then in address.
     Broken(Breach),
-    /// The moments that it speaks of don't come, and whether it allows that.
+    /// The moments that it names don't come, and whether it allows that.
     Unmet(bool),
 }
 
 impl Verdict {
-    /// Whether the policy doesn't hold by it.
+    /// Whether it means that the policy doesn't hold.
     pub fn is_breach(self) -> bool
         ensures { result ≡ is_breach self }
     {
@@ -47,7 +47,7 @@ impl Verdict {
     }
 }
 
-/// Appends `NUMBER,holds,,,,` where nothing breaks the row, `NUMBER,unmet,,,,` where its moments don't come, else
+/// Appends `NUMBER,holds,,,,` if nothing breaks the row, `NUMBER,unmet,,,,` if its moments don't come, and otherwise
 /// `NUMBER,broken,DONE,FIRST,LAST,OWNER`, with the first and the last byte in fourteen hexadecimal digits, and a dash
 /// for no owner.
 fn write_fields<S: Sink>(out: &mut S, number: u64, verdict: Verdict) -> Result<(), AllocError>
@@ -69,7 +69,7 @@ fn write_fields<S: Sink>(out: &mut S, number: u64, verdict: Verdict) -> Result<(
     )
 }
 
-/// Appends the name and the comment of a row that has them, or a beginning of these.
+/// Appends the name and the comment of a row that has them, or a prefix of these.
 fn write_label<S: Sink>(out: &mut S, label: Option<&Label>) -> Result<(), AllocError>
     ensures ok { OnOk result (S.text out.new
         ≡ S.text out.old ++ fields_before (label_fields (option_map label_text (option_copied label.entry)))) }
@@ -82,7 +82,7 @@ fn write_label<S: Sink>(out: &mut S, label: Option<&Label>) -> Result<(), AllocE
     append_field(out, &label.comment)
 }
 
-/// Appends the whole row, or a beginning of it.
+/// Appends the whole row, or a prefix of it.
 fn write_all<S: Sink>(
     out: &mut S,
     number: u64,
@@ -99,7 +99,7 @@ fn write_all<S: Sink>(
     out.append(b"\n")
 }
 
-/// Appends the row of a policy's row with this number, with its name and its comment where it has them, and LF.
+/// Appends the answer row for the policy row with this number, with its name and comment if it has them, and LF.
 pub fn write_verdict<S: Sink>(
     out: &mut S,
     number: u64,

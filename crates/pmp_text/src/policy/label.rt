@@ -1,4 +1,4 @@
-//! What people call a row of a policy, and what they say of it.
+//! The name of a policy's row, and the comment on it.
 
 ghost use Rattle.std.specs.Prelude.{◌≡◌, IfOk};
 ghost use Rattle.csv.specs.Records.{fields_of};
@@ -16,7 +16,7 @@ pub struct Label {
 }
 
 impl Label {
-    /// That of a record.
+    /// Returns the label of a record.
     pub fn read(alloc: Global, fields: &ByteRecord) -> Result<Label, AllocError>
         ensures { IfOk result (λ label. label_text label ≡ label_in (fields_of fields.now)) }
     {

@@ -13,7 +13,7 @@ use crate::refusal::Refusal;
 use crate::trace::{MAX_TRACE, Records, TraceFault};
 use std::alloc::Global;
 
-/// Reads the rows behind the header, perhaps with names and comments.
+/// Reads the rows after the header, perhaps with names and comments.
 fn read_rows(
     alloc: Global,
     records: &mut Records<'_>,
@@ -39,7 +39,7 @@ fn read_rows(
     Ok(Policy { rows, labels })
 }
 
-/// Reads the header, and the rows behind it.
+/// Reads the header, and the rows after it.
 fn read_records(
     alloc: Global,
     records: &mut Records<'_>,
@@ -61,9 +61,9 @@ fn read_records(
     read_rows(alloc, records, labeled, moments)
 }
 
-/// The policy that a text describes, beside a script with these moments, else its first fault. The
-/// time is linear in the text, and only the rows and one record take memory: where they can't grow, `Memory` is
-/// answered in place of any fault further on.
+/// Returns the policy that a text describes, for a script with these moments, else its first fault. The time is linear
+/// in the text, and only the rows and one record take memory: if they can't grow, `Memory` is returned instead of any
+/// later fault.
 pub fn read_policy(alloc: Global, text: &[u8], moments: &Moments<'_>) -> Result<Policy, TraceFault>
     ensures given { GivesRows rows_said result (policy_meaning moments.now text.now) }
     ensures within { IfOk result (λ policy. All (λ row. row.to ≤ moments.now.publications) policy.rows.items) }

@@ -1,4 +1,4 @@
-//! What one record of a policy says.
+//! The contents of one record of a policy.
 
 ghost use Rattle.std.specs.Prelude.{◌≡◌, ◌≤◌, IfOk, IfErr, None, Ok, Some, option_map};
 ghost use Rattle.std.specs.List.{list_any};
@@ -32,14 +32,14 @@ use crate::words::is_word;
 use csv::ByteRecord;
 use pmp_core::ADDRESS_LIMIT;
 
-/// The index by which a flaw tells of a row's name. The fields from `from` to `demand` have 0 to 6, whether they stand
-/// between a name and a comment or not.
+/// The index of a row's name in a flaw. The fields from `from` to `demand` have the indices 0 to 6, with or without a
+/// name and a comment around them.
 pub const NAME: usize = 7;
 
-/// The index by which a flaw tells of a row's comment.
+/// The index of a row's comment in a flaw.
 pub const COMMENT: usize = 8;
 
-/// What the seven fields of a row say, be it a row or not: its publications, modes, kinds, byte addresses and demand. Of a
+/// What the seven fields of a row say, valid or not: its publications, modes, kinds, byte addresses and demand. In a
 /// row whose moments don't come `from` and `to` are the number of all publications.
 #[derive(Clone, Copy, Debug, PartialEq, Eq)]
 pub struct PolicyFields {
@@ -50,7 +50,7 @@ pub struct PolicyFields {
     pub first: u64,
     pub last: u64,
     pub demand: Demand,
-    /// Whether the moments that it speaks of come.
+    /// Whether the moments that it names come.
     pub coming: Coming,
     /// Whether `first` or `last` is 14 digits without `0x`.
     pub is_bare: bool,
@@ -68,7 +68,7 @@ pub struct Words<'a> {
     pub demand: &'a [u8],
 }
 
-/// The nine fields of a record: seven between a name and a comment.
+/// The nine fields of a record: a name, the seven and a comment.
 #[derive(Clone, Copy)]
 pub struct LabeledWords<'a> {
     pub name: &'a [u8],
@@ -76,7 +76,7 @@ pub struct LabeledWords<'a> {
     pub comment: &'a [u8],
 }
 
-/// Seven fields of a record, from the one with this index on.
+/// Returns seven fields of a record, from the one with this index on.
 fn words_from(fields: &ByteRecord, first: usize) -> Option<Words<'_>>
     requires { first ≤ 1 }
     ensures { option_map seen_seven result ≡ seven_from (fields_of fields.now) first }
@@ -92,7 +92,7 @@ fn words_from(fields: &ByteRecord, first: usize) -> Option<Words<'_>>
     })
 }
 
-/// The fields of a record that has seven.
+/// Returns the fields of a record that has seven.
 #[tactic(auto, using(crate::proofs::Fields::by_seven_places))]
 fn seven_fields(fields: &ByteRecord) -> Option<Words<'_>>
     ensures { option_map seen_seven result ≡ seven_fields (fields_of fields.now) }
@@ -103,7 +103,7 @@ fn seven_fields(fields: &ByteRecord) -> Option<Words<'_>>
     words_from(fields, 0)
 }
 
-/// The fields of a record that has nine.
+/// Returns the fields of a record that has nine.
 #[tactic(auto, using(crate::proofs::Fields::by_nine_places))]
 pub fn nine_fields(fields: &ByteRecord) -> Option<LabeledWords<'_>>
     ensures { option_map seen_nine result ≡ nine_fields (fields_of fields.now) }
@@ -118,14 +118,14 @@ pub fn nine_fields(fields: &ByteRecord) -> Option<LabeledWords<'_>>
     })
 }
 
-/// Whether a record names the fields of rows without names and comments.
+/// Whether a record is the header of rows without names and comments.
 pub fn is_plain_header(fields: &ByteRecord) -> bool
     ensures { result ≡ is_plain_header (fields_of fields.now) }
 {
     seven_fields(fields).is_some_and(|words| words.are_names())
 }
 
-/// Whether a record names the fields of rows with names and comments.
+/// Whether a record is the header of rows with names and comments.
 pub fn is_labeled_header(fields: &ByteRecord) -> bool
     ensures { result ≡ is_labeled_header (fields_of fields.now) }
 {
@@ -135,7 +135,7 @@ pub fn is_labeled_header(fields: &ByteRecord) -> bool
     is_word(all.name, b"name") && all.words.are_names() && is_word(all.comment, b"comment")
 }
 
-/// Whether a text has a control byte, as no name and no comment does.
+/// Whether a text has a control byte, which no name or comment may have.
 fn has_control(text: &[u8]) -> bool
     ensures { result ≡ list_any is_control text.now }
 {
@@ -156,7 +156,7 @@ impl Words<'_> {
             && is_word(self.demand, b"demand")
     }
 
-    /// From which moment to which they speak.
+    /// Returns the first and the last moment.
     #[tactic(auto, unfolding(crate::specs::Policies::moments_said))]
     fn moments(self, moments: &Moments<'_>) -> Result<Asked, Flaw>
         ensures said { result ≡ moments_said moments.now (seen_seven self.entry) }
@@ -167,7 +167,7 @@ impl Words<'_> {
         Ok(moments.between(from, to))
     }
 
-    /// Of which modes and kinds they speak.
+    /// Returns the modes and the kinds.
     #[tactic(auto, unfolding(crate::specs::Policies::accesses_said))]
     fn accesses(self) -> Result<(Modes, Kinds), Flaw>
         ensures { result ≡ accesses_said (seen_seven self.entry) }
@@ -177,7 +177,7 @@ impl Words<'_> {
         Ok((modes, kinds))
     }
 
-    /// From which byte to which one.
+    /// Returns the first and the last byte.
     #[tactic(auto, unfolding(crate::specs::Policies::bytes_said))]
     fn bytes(self) -> Result<(u64, u64), Flaw>
         ensures said { result ≡ bytes_said (seen_seven self.entry) }
@@ -190,7 +190,7 @@ impl Words<'_> {
 }
 
 impl LabeledWords<'_> {
-    /// What they say as a row, or which of them says nothing.
+    /// Returns what they say as a row, or which of them is invalid.
     #[tactic(auto, unfolding(crate::specs::Policies::policy_of_nine))]
     fn row(self, moments: &Moments<'_>) -> Result<PolicyFields, Flaw>
         ensures said { result ≡ policy_of_nine moments.now (seen_nine self.entry) }
@@ -209,8 +209,8 @@ impl LabeledWords<'_> {
 }
 
 impl PolicyFields {
-    /// What a record says as a row beside a script with these moments, perhaps with a name and a comment, or which
-    /// field says nothing.
+    /// Returns what a record says as a row for a script with these moments, perhaps with a name and a comment, or which
+    /// field is invalid.
     pub fn read(
         labeled: bool,
         fields: &ByteRecord,
@@ -233,7 +233,7 @@ impl PolicyFields {
         }
     }
 
-    /// What seven fields say, or which one says nothing.
+    /// Returns what seven fields say, or which one is invalid.
     #[tactic(auto, unfolding(crate::specs::Policies::policy_of_fields))]
     fn of_words(words: Words<'_>, moments: &Moments<'_>) -> Result<PolicyFields, Flaw>
         ensures said { result ≡ policy_of_fields moments.now (seen_seven words.entry) }
@@ -257,7 +257,7 @@ impl PolicyFields {
         })
     }
 
-    /// The row, beside a script with so many publications, where neither ends before it begins.
+    /// Returns the row, for a script with the given number of publications, if neither range ends before it begins.
     pub(crate) fn check(self, publications: u64) -> Result<PolicyRow, Flaw>
         requires forward { self.from ≤ publications → self.from ≤ self.to }
         requires ordered { self.first ≤ self.last }
@@ -289,7 +289,7 @@ impl PolicyFields {
     }
 }
 
-/// The row that a record says, perhaps with a name and a comment, beside a script with these moments.
+/// Returns the row of a record, perhaps with a name and a comment, for a script with these moments.
 pub fn read_policy_row(
     labeled: bool,
     fields: &ByteRecord,

@@ -9,7 +9,7 @@ use crate::numbers::read_word_number;
 use crate::policy::{Demand, Kinds, Modes};
 use crate::words::is_word;
 
-/// The demand that a word names: `never`, `always` or `held`.
+/// Returns the demand that a word names: `never`, `always` or `held`.
 pub fn read_demand(word: &[u8]) -> Option<Demand>
     ensures { result ≡ demand_named word.now }
 {
@@ -24,7 +24,7 @@ pub fn read_demand(word: &[u8]) -> Option<Demand>
     }
 }
 
-/// The kinds that a word names: `any`, or one of the three.
+/// Returns the kinds that a word names: `any`, or one of the three.
 pub fn read_kinds(word: &[u8]) -> Option<Kinds>
     ensures { result ≡ kinds_named word.now }
 {
@@ -34,14 +34,14 @@ pub fn read_kinds(word: &[u8]) -> Option<Kinds>
     read_kind(word).map(Kinds::One)
 }
 
-/// How often a letter stands in a word.
+/// Returns how often a letter occurs in a word.
 fn times(letter: u8, word: &[u8]) -> usize
     ensures { result ≡ times letter word.now }
 {
     word.iter().filter(|byte| **byte == letter).count()
 }
 
-/// The modes that a word names: one to three of the letters `M`, `S` and `U`, none of them twice.
+/// Returns the modes that a word names: one to three of the letters `M`, `S` and `U`, none of them twice.
 pub fn read_modes(word: &[u8]) -> Option<Modes>
     ensures { result ≡ modes_named word.now }
 {
@@ -61,7 +61,7 @@ pub fn read_modes(word: &[u8]) -> Option<Modes>
     })
 }
 
-/// The number that a word writes, if it is at least so large.
+/// Returns the number that a word writes, if it is at least `least`.
 pub fn read_at_least(least: u64, word: &[u8]) -> Option<u64>
     ensures { result ≡ at_least least (word_number word.now) }
 {

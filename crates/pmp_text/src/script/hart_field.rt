@@ -1,4 +1,4 @@
-//! What a head says of the hart.
+//! The hart fields in the head of a script.
 
 ghost use Rattle.std.specs.Prelude.{◌≡◌, ◌<◌, ◌==◌, IfSome, position};
 ghost use Rattle.pmp_text.specs.Heads.{field_fault, hart_kind, said_with, same_field, with_field};
@@ -11,10 +11,10 @@ use crate::refusal::Refusal;
 use crate::words::is_word;
 use pmp_core::{HartFault, MAX_ADDRESS_BITS, MAX_ENTRIES, MAX_GRAIN, MIN_ADDRESS_BITS, Profile};
 
-/// The grains that there are, in bytes: that of G is at place G.
+/// The possible grains in bytes: that of G is at index G.
 pub const GRAINS: [u64; 11] = [4, 8, 16, 32, 64, 128, 256, 512, 1024, 2048, 4096];
 
-/// One thing that a head says of the hart.
+/// One thing that a head says about the hart.
 #[derive(Clone, Copy)]
 pub enum HartField {
     /// Whether XLEN is 32, and not 64.
@@ -22,12 +22,12 @@ pub enum HartField {
     Entries(u8),
     /// The manual's G.
     Grain(u8),
-    /// How many bits a physical address has.
+    /// The number of physical address bits.
     Bits(u8),
     Smepmp(bool),
 }
 
-/// A number below 256; a larger one is of this kind.
+/// Returns a number below 256, or a refusal of this kind if it is larger.
 fn read_byte(word: &[u8], kind: Refusal) -> Result<u8, Refusal>
     ensures { result ≡ byte_number kind word.now }
 {
@@ -46,7 +46,7 @@ fn place_of_grain(bytes: u64) -> Option<usize>
     GRAINS.iter().position(|grain| *grain == bytes)
 }
 
-/// G of a grain in bytes.
+/// Returns G for a grain in bytes.
 fn read_grain(word: &[u8]) -> Result<u8, Refusal>
     ensures { result ≡ grain_number word.now }
 {
@@ -75,7 +75,7 @@ fn read_xlen(word: &[u8]) -> Result<HartField, Refusal>
     }
 }
 
-/// What a value says as the field with this name.
+/// Returns what a value means for the field with this name.
 fn read_value(name: &[u8], value: &[u8]) -> Option<Result<HartField, Refusal>>
     ensures { result ≡ field_named name.now value.now }
 {
@@ -94,7 +94,7 @@ fn read_value(name: &[u8], value: &[u8]) -> Option<Result<HartField, Refusal>>
     }
 }
 
-/// What a field's name and its value say.
+/// Returns what a field's name and its value say.
 pub fn read_field(name: &[u8], value: &[u8]) -> Result<HartField, Flaw>
     ensures { result ≡ field_of name.now value.now }
 {
@@ -103,7 +103,7 @@ pub fn read_field(name: &[u8], value: &[u8]) -> Result<HartField, Flaw>
 }
 
 impl HartField {
-    /// Whether the other is of the same field.
+    /// Whether the other is about the same field.
     pub fn is_same(self, other: HartField) -> bool
         ensures { result ≡ same_field self other }
     {
@@ -117,7 +117,7 @@ impl HartField {
         }
     }
 
-    /// How a script refuses it, if no hart has this.
+    /// Returns how a script refuses it, if no hart has this.
     fn fault(self) -> Option<Refusal>
         ensures { result ≡ field_fault self }
     {
@@ -133,7 +133,7 @@ impl HartField {
         }
     }
 
-    /// What is said of the hart with this in place of what was.
+    /// Returns the profile with this instead of what it had.
     fn put_into(self, said: Profile) -> Profile
         ensures { result ≡ with_field said self }
     {
@@ -149,7 +149,7 @@ impl HartField {
         }
     }
 
-    /// The same, if some hart has this.
+    /// Returns the same, if some hart has this.
     pub fn said_over(self, said: Profile) -> Result<Profile, Refusal>
         ensures { result ≡ said_with said self }
     {
@@ -160,7 +160,7 @@ impl HartField {
     }
 }
 
-/// How a script refuses a number that no hart has.
+/// Returns how a script refuses a number that no hart has.
 pub fn kind_of(fault: HartFault) -> Refusal
     ensures { result ≡ hart_kind fault }
 {

@@ -1,4 +1,4 @@
-//! Which registers and values the hart of a script has.
+//! The registers and values that the hart of a script has.
 
 ghost use Rattle.std.specs.Prelude.{◌≡◌};
 ghost use Rattle.pmp_text.specs.Heads.{event_flaw, first_of, foreign_at, foreign_expectation, foreign_kind, foreign_line};
@@ -13,7 +13,7 @@ use crate::script::statement::HeadStatement;
 use crate::script::version::Version;
 use pmp_core::{Csr, Event};
 
-/// How a register is refused that no hart of this XLEN has.
+/// Returns how a register that no hart of this XLEN has is refused.
 fn foreign_kind(is_rv32: bool, csr: Csr) -> Option<Refusal>
     ensures { result ≡ foreign_kind is_rv32 csr }
 {
@@ -24,7 +24,7 @@ fn foreign_kind(is_rv32: bool, csr: Csr) -> Option<Refusal>
     }
 }
 
-/// The same, at the line that names it.
+/// Returns the same, at the line that names it.
 fn foreign_at(is_rv32: bool, line: u64, csr: Csr) -> Option<ScriptFault>
     ensures { result ≡ foreign_at is_rv32 line csr }
 {
@@ -41,7 +41,7 @@ fn foreign_line(is_rv32: bool, line: &HeadLine) -> Option<ScriptFault>
     }
 }
 
-/// The fault of the first line of a head that sets such a register.
+/// Returns the fault of the first line of a head that sets such a register.
 pub fn first_foreign_line(is_rv32: bool, lines: &[HeadLine]) -> Option<ScriptFault>
     ensures { result ≡ first_of (foreign_line is_rv32) lines.now }
 {
@@ -59,7 +59,7 @@ fn foreign_expectation(is_rv32: bool, expected: &Expectation) -> Option<ScriptFa
     foreign_at(is_rv32, expected.line, expected.register)
 }
 
-/// The fault of the first line that expects something of such a register.
+/// Returns the fault of the first line that expects something of such a register.
 pub fn first_foreign_expectation(is_rv32: bool, expected: &[Expectation]) -> Option<ScriptFault>
     ensures { result ≡ first_of (foreign_expectation is_rv32) expected.now }
 {
@@ -71,7 +71,7 @@ pub fn first_foreign_expectation(is_rv32: bool, expected: &[Expectation]) -> Opt
     None
 }
 
-/// What is wrong with a write: its register, or on RV32 a value of more than 32 bits.
+/// Returns what is wrong with a write: its register, or on RV32 a value of more than 32 bits.
 fn write_flaw(is_rv32: bool, csr: Csr, value: u64) -> Option<Flaw>
     ensures { result ≡ write_flaw is_rv32 csr value }
 {
@@ -82,7 +82,7 @@ fn write_flaw(is_rv32: bool, csr: Csr, value: u64) -> Option<Flaw>
     }
 }
 
-/// What is wrong with an event on such a hart.
+/// Returns what is wrong with an event on such a hart.
 pub fn event_flaw(version: Version, is_rv32: bool, event: Event) -> Option<Flaw>
     ensures { result ≡ event_flaw version is_rv32 event }
 {

@@ -13,7 +13,7 @@ use crate::script::statement::HeadStatement;
 use arrayvec::ArrayVec;
 use pmp_core::{Hart, Profile, Size};
 
-/// How many lines a head has at most: five of the hart, and one for each register, of which RV32 has most.
+/// The greatest number of lines of a head: five for the hart, and one for each register, of which RV32 has the most.
 pub const HEAD_LINES: usize = 87;
 
 /// A line of a head, with its number in the text, counted from 1.
@@ -23,17 +23,17 @@ pub struct HeadLine {
     pub statement: HeadStatement,
 }
 
-/// What was read of a head so far.
+/// What has been read of a head so far.
 #[derive(Drop)]
 pub struct Head {
-    /// What is said of the hart, with 0 address bits where nothing is said of them.
+    /// What is said about the hart, with 0 address bits if nothing is said about them.
     said: Profile,
     lines: ArrayVec<HeadLine, HEAD_LINES>,
     /// Whether an event or a `publish` came.
     is_over: bool,
 }
 
-/// What is said of the hart once a line of the head is read.
+/// Returns what is said about the hart after a line of the head.
 fn said_after(said: Profile, statement: HeadStatement) -> Result<Profile, Flaw>
     ensures { result ≡ checked (own_fault statement) (with_statement said statement) }
 {
@@ -43,7 +43,7 @@ fn said_after(said: Profile, statement: HeadStatement) -> Result<Profile, Flaw>
     }
 }
 
-/// What is said where nothing is.
+/// Returns the profile before anything is said.
 fn unsaid() -> Profile
     ensures { result ≡ unsaid_hart }
 {
@@ -54,7 +54,7 @@ fn unsaid() -> Profile
 }
 
 impl Head {
-    /// A head with no line.
+    /// Returns a head without lines.
     pub fn new() -> Self
         ensures hart { IsHead result }
         ensures nothing { head_of result ≡ no_head }
@@ -66,7 +66,7 @@ impl Head {
         }
     }
 
-    /// An event or a `publish` came.
+    /// Notes that an event or a `publish` came.
     pub fn end(&mut self)
         requires { IsHead self.old }
         ensures hart { IsHead self.new }
@@ -107,7 +107,7 @@ impl Head {
         Ok(())
     }
 
-    /// What was said of the hart.
+    /// Returns what was said about the hart.
     pub fn said(&self) -> Profile
         requires { IsHead self.now }
         ensures { result ≡ profile_said self.now.lines.items }
@@ -115,7 +115,7 @@ impl Head {
         self.said
     }
 
-    /// The lines of the head.
+    /// Returns the lines of the head.
     pub fn lines(&self) -> &[HeadLine]
         ensures { result.now ≡ self.now.lines.items }
     {

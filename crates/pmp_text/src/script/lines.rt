@@ -1,4 +1,4 @@
-//! The lines of a text, one after the other.
+//! The lines of a text, one after another.
 
 ghost use Rattle.std.specs.Prelude.{◌≡◌, ◌<◌, [], ◌∷◌, length, MatchOption, IfSome, position};
 ghost use Rattle.std.specs.List.{before_first, after_first};
@@ -11,7 +11,7 @@ fn first_line_feed(text: &[u8]) -> Option<usize>
     text.iter().position(|byte| *byte == b'\n')
 }
 
-/// What stands before the first line feed, and what stands after it.
+/// Returns the text before the first line feed, and the text after it.
 fn split_at_line_feed(text: &[u8]) -> (&[u8], &[u8])
     ensures line { result.0.now ≡ before_first is_line_feed text.now }
     ensures rest { result.1.now ≡ after_first is_line_feed text.now }
@@ -31,7 +31,7 @@ fn without_carriage_return(line: &[u8]) -> &[u8]
     }
 }
 
-/// The first line of a text and what stands after it, or nothing where the text is empty.
+/// Returns the first line of a text and the text after it, or nothing if the text is empty.
 pub fn split_first_line(text: &[u8]) -> Option<(&[u8], &[u8])>
     ensures lines { MatchOption result (lines text.now ≡ [])
         (λ parts. lines text.now ≡ parts.0.now ∷ lines parts.1.now) }

@@ -11,7 +11,7 @@ use crate::event_log::EventLog;
 use crate::script::ScriptFault;
 use pmp_core::Event;
 
-/// The batch that is open: the last events of a log, behind those that are published.
+/// The open batch: the last events of a log, after the published ones.
 #[derive(Clone, Copy)]
 pub struct OpenBatch {
     /// How many events are published.
@@ -21,7 +21,7 @@ pub struct OpenBatch {
 }
 
 impl OpenBatch {
-    /// The one of an empty log.
+    /// Returns the batch of an empty log.
     pub fn new() -> Self
         ensures open { IsOpen nothing_kept result }
         ensures nothing { progress_of nothing_kept result ≡ nothing_read }
@@ -46,7 +46,7 @@ impl OpenBatch {
         Ok(())
     }
 
-    /// How many events the open batch has.
+    /// Returns how many events the open batch has.
     pub fn count<L: EventLog>(&self, log: &L) -> usize
         requires { IsOpen (L.kept log.now) self.now }
         ensures { result ≡ length (progress_of (L.kept log.now) self.now).batch }
@@ -73,7 +73,7 @@ impl OpenBatch {
         Ok(())
     }
 
-    /// The line of the open batch's first event.
+    /// Returns the line of the open batch's first event.
     pub fn since(&self) -> Option<u64>
         ensures { result ≡ self.now.since }
     {

@@ -14,16 +14,16 @@ use crate::script::significant::SignificantLines;
 use crate::script::version::{Version, read_version};
 use crate::script::{Script, ScriptFault};
 
-/// The most bytes of a script of version 1 or 2.
+/// The greatest length of a script of version 1 or 2, in bytes.
 pub const MAX_SCRIPT: usize = 1 << 20;
 
-/// The most bytes of a script of version 3.
+/// The greatest length of a script of version 3, in bytes.
 pub const MAX_HEADED_SCRIPT: usize = 1 << 26;
 
-/// The most events of a script, and the most publications.
+/// The greatest number of events of a script, and of publications.
 pub const MAX_EVENTS: usize = 1 << 20;
 
-/// Reads the lines behind a script's first one.
+/// Reads the lines after a script's first one.
 fn read_statements<'a, L: EventLog>(
     log: &'a mut L,
     version: Version,
@@ -40,16 +40,16 @@ fn read_statements<'a, L: EventLog>(
     reading.finish(log, version)
 }
 
-/// Whether a text has more bytes than a script of its version.
+/// Whether a text is longer than a script of its version may be.
 fn is_too_long(text: &[u8]) -> bool
     ensures { result ≡ nat_lt (most_bytes text.now) (length text.now) }
 {
     text.len() > MAX_HEADED_SCRIPT || text.len() > MAX_SCRIPT && !is_headed(text)
 }
 
-/// The script that a text describes, else its first fault. The time is linear in the text, and only the publications
-/// and what is expected take room, in the log, which forgets what it had: where they have none, `Memory` is answered in
-/// place of any fault further on.
+/// Returns the script that a text describes, else its first fault. The time is linear in the text, and only the
+/// publications and expectations take room, in the log, which is cleared first: if there is none, `Memory` is returned
+/// instead of any later fault.
 pub fn read_script<'a, L: EventLog>(log: &'a mut L, text: &[u8]) -> Result<Script<'a>, ScriptFault>
     ensures { Gives (λ script. script) result (script_meaning text.now) }
 {

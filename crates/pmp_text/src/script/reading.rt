@@ -1,4 +1,4 @@
-//! What was read of a script so far.
+//! What has been read of a script so far.
 
 ghost use Rattle.std.specs.Prelude.{◌≡◌, ◌++◌, Err, IfErr, IfOk, None, Ok, OnOk, Some, length, nat_lt};
 ghost use Rattle.std.specs.Prelude.{if◌then◌else◌};
@@ -44,7 +44,7 @@ fn is_in(marks: &[Mark], name: &Name) -> bool
     marks.iter().any(|mark| name.is(&mark.name))
 }
 
-/// What is wrong with a name that a moment gets, where it gets one.
+/// Returns what is wrong with the name that a moment gets, if it gets one.
 fn name_flaw(marks: &[Mark], name: Option<Name>) -> Option<Flaw>
     ensures { result ≡ name_fault (is_in marks.now) name }
 {
@@ -52,14 +52,14 @@ fn name_flaw(marks: &[Mark], name: Option<Name>) -> Option<Flaw>
     is_in(marks, &name).then_some(Refusal::Twice.part(1))
 }
 
-/// What is wrong with one event more, or one publication more, behind so many.
+/// Returns what is wrong with one more event or publication after the given number of them.
 fn many_flaw(count: usize) -> Option<Flaw>
     ensures { result ≡ if nat_lt count MAX_EVENTS then None else Some (as_whole TooMany) }
 {
     (count >= MAX_EVENTS).then_some(Refusal::TooMany.whole())
 }
 
-/// What is wrong with an event, of which more is known, behind so many that aren't published and so many in all.
+/// Returns what is wrong with an event that may have a flaw, after these numbers of unpublished and of all events.
 fn event_fault(flaw: Option<Flaw>, unpublished: usize, all: usize) -> Option<Flaw>
     ensures { result ≡ event_fault flaw unpublished all }
 {
@@ -72,14 +72,14 @@ fn event_fault(flaw: Option<Flaw>, unpublished: usize, all: usize) -> Option<Fla
     many_flaw(all)
 }
 
-/// What is wrong with a publication whose moment gets this name, or none.
+/// Returns what is wrong with a publication whose moment gets this name, or none.
 fn publish_flaw<L: EventLog>(log: &L, name: Option<Name>) -> Option<Flaw>
     ensures { let kept = L.kept log.now in result ≡ publish_fault (is_in kept.marks) name (length kept.ends) }
 {
     name_flaw(log.marks(), name).or(many_flaw(log.ends().len()))
 }
 
-/// What is wrong with a `mark` behind so many events that aren't published.
+/// Returns what is wrong with a `mark` after the given number of unpublished events.
 fn mark_flaw(count: usize, marks: &[Mark], name: Name) -> Option<Flaw>
     ensures { result ≡ mark_fault count (is_in marks.now name) }
 {
@@ -89,7 +89,7 @@ fn mark_flaw(count: usize, marks: &[Mark], name: Name) -> Option<Flaw>
     is_in(marks, &name).then_some(Refusal::Twice.part(1))
 }
 
-/// Gives the moment behind the publications of a log a name, where there is one.
+/// Names the moment after the publications of a log, if there is a name.
 fn mark<L: EventLog>(log: &mut L, name: Option<Name>) -> Result<(), ScriptFault>
     ensures marked { Gives (λ _. (L.kept log.new).marks) result
         (Ok ((L.kept log.old).marks ++ mark_at name (length (L.kept log.old).ends))) }
@@ -102,24 +102,24 @@ fn mark<L: EventLog>(log: &mut L, name: Option<Name>) -> Result<(), ScriptFault>
     Ok(log.mark(Mark { name, done })?)
 }
 
-/// The writes that a line stands for in this file.
+/// Returns the writes that a line stands for in this file.
 fn writes(says: Result<Shorthand, Flaw>, file: &RegFile) -> Result<Writes, Flaw>
     ensures { result ≡ and_then says (writes_of file.now) }
 {
     says?.writes(file)
 }
 
-/// The batch that is open in a log, and the head.
+/// The open batch of a log, and the head.
 #[derive(Drop)]
 pub struct ScriptReading {
     batch: OpenBatch,
     head: Head,
-    /// The register file here, once a shorthand asked for it.
+    /// The register file at this point, once a shorthand needed it.
     file: Option<RegFile>,
 }
 
 impl ScriptReading {
-    /// Before the first line, with an empty log.
+    /// Returns the state before the first line, with an empty log.
     pub fn new() -> Self
         ensures reading { IsReading nothing_kept result }
         ensures nothing { reading_of nothing_kept result ≡ nothing_begun }
@@ -156,7 +156,7 @@ impl ScriptReading {
         Ok(())
     }
 
-    /// The register file here.
+    /// Returns the register file at this point.
     fn file_here<L: EventLog>(&self, log: &L) -> RegFile
         requires { IsReading (L.kept log.now) self.now }
         ensures { result ≡ file_now (reading_of (L.kept log.now) self.now) }
@@ -169,7 +169,7 @@ impl ScriptReading {
         file
     }
 
-    /// Takes these writes in the place of a line.
+    /// Takes these writes instead of a line.
     fn take_writes<L: EventLog>(
         &mut self,
         log: &mut L,
@@ -190,7 +190,7 @@ impl ScriptReading {
         }
     }
 
-    /// Takes a line that stands for writes.
+    /// Takes a shorthand line, which stands for writes.
     fn take_shorthand<L: EventLog>(
         &mut self,
         log: &mut L,
@@ -255,7 +255,7 @@ impl ScriptReading {
         }
     }
 
-    /// Takes a significant line that isn't the script's first one. After an error the log is of no use.
+    /// Takes a significant line that isn't the script's first one. After an error the log can't be used.
     #[tactic(auto, using(crate::proofs::Longhands::one_line))]
     pub fn take_line<L: EventLog>(
         &mut self,
@@ -278,7 +278,7 @@ impl ScriptReading {
         }
     }
 
-    /// The script, if no events are left unpublished and the head's values are kept.
+    /// Returns the script, if no events are left unpublished and the head's values are kept.
     pub fn finish<L: EventLog>(self, log: &L, version: Version) -> Result<Script<'_>, ScriptFault>
         requires { IsReading (L.kept log.now) self }
         ensures ok { IfOk result

@@ -1,4 +1,4 @@
-//! Lines that stand for writes, whose values the registers there decide.
+//! Shorthand lines: they stand for writes whose values depend on the registers at that point.
 
 ghost use Rattle.std.specs.Prelude.{◌≡◌, ◌<◌, ◌≤◌, IfOk, None};
 ghost use Rattle.pmp_text.specs.Lines.{words};
@@ -29,13 +29,13 @@ pub enum Shorthand {
     Entry(EntryLine),
 }
 
-/// What a line says of an entry.
+/// What a line says about an entry.
 #[derive(Clone, Copy)]
 pub struct EntryLine {
     pub number: u8,
     /// Its byte of a `pmpcfg` register.
     pub configuration: u8,
-    /// Where it matches, where it isn't off.
+    /// Where it matches, unless it is off.
     pub place: Option<Place>,
 }
 
@@ -44,14 +44,14 @@ pub struct EntryLine {
 pub struct Place {
     /// The word address that its `pmpaddr` is written with.
     pub address: u64,
-    /// The word address that the entry before it has to end at, where its range begins there.
+    /// The word address at which the entry before it must end, if its range begins there.
     pub low: Option<u64>,
 }
 
 /// The writes of a line.
 #[derive(Clone, Copy)]
 pub struct Writes {
-    /// That of an entry's address, which comes first.
+    /// The write of an entry's address, which comes first.
     pub address: Option<Event>,
     pub last: Event,
 }
@@ -62,7 +62,7 @@ fn read_number(word: &[u8]) -> Result<u64, Refusal>
     read_word_number(word).ok_or(Refusal::BadNumber)
 }
 
-/// An entry that some hart has.
+/// Returns the number of an entry that some hart has.
 fn read_entry_number(word: &[u8]) -> Result<u8, Refusal>
     ensures { result ≡ entry_said word.now }
 {
@@ -85,7 +85,7 @@ fn read_matching(word: &[u8]) -> Result<AddressMatching, Refusal>
     }
 }
 
-/// R, W and X, as rows write rights: R is 1, W is 2, X is 4. `BadLine` where the word isn't of that form.
+/// Returns R, W and X, as rows write rights: R is 1, W is 2, X is 4. `BadLine` if the word isn't of that form.
 pub fn read_rights(word: &[u8]) -> Result<u8, Refusal>
     ensures rights { result ≡ rights_said word.now }
     ensures most { IfOk result (λ bits. bits < 8) }
@@ -103,7 +103,7 @@ pub fn read_rights(word: &[u8]) -> Result<u8, Refusal>
     }
 }
 
-/// L, where a last word says so.
+/// Returns L, if a last word gives it.
 fn read_lock(mut operands: Words) -> Result<u8, Flaw>
     ensures lock { result ≡ lock_said (words operands.entry.rest.now) }
     ensures most { IfOk result (λ bit. bit ≤ 128) }
@@ -133,7 +133,7 @@ fn matching_bits(matching: AddressMatching) -> u8
     }
 }
 
-/// So many bytes at a multiple of so many.
+/// Returns the place of `size` bytes at a multiple of `size`.
 fn aligned_place(first: u64, size: u64) -> Result<Place, Flaw>
     requires { 4 ≤ size }
     ensures { result ≡ aligned_place first size }
@@ -148,7 +148,7 @@ fn aligned_place(first: u64, size: u64) -> Result<Place, Flaw>
     }
 }
 
-/// From where the entry before it ends.
+/// Returns the place from where the entry before it ends.
 fn tor_place(first: u64, end: u64) -> Result<Place, Flaw>
     ensures { result ≡ tor_place first end }
 {
@@ -164,7 +164,7 @@ fn tor_place(first: u64, end: u64) -> Result<Place, Flaw>
     })
 }
 
-/// Where an entry matches, by its first byte, and its size or the byte behind its last.
+/// Returns where an entry matches, given its first byte, and its size or the byte after its last.
 fn read_place(matching: AddressMatching, first: u64, second: u64) -> Result<Place, Flaw>
     ensures { result ≡ place_said matching first second }
 {
@@ -179,7 +179,7 @@ fn read_place(matching: AddressMatching, first: u64, second: u64) -> Result<Plac
     }
 }
 
-/// Where an entry matches, by the words that say it.
+/// Returns where an entry matches, given the words that say it.
 #[tactic(auto, unfolding(crate::specs::Shorthands::place_words))]
 fn read_place_words(matching: AddressMatching, first: &[u8], second: &[u8]) -> Result<Place, Flaw>
     ensures { result ≡ place_words matching first.now second.now }
@@ -189,7 +189,7 @@ fn read_place_words(matching: AddressMatching, first: &[u8], second: &[u8]) -> R
     read_place(matching, first, second)
 }
 
-/// Which entry a line is of, and its rights with its lock.
+/// Returns which entry a line is about, and its rights with its lock.
 #[tactic(auto, unfolding(crate::specs::Shorthands::rule_said))]
 fn read_rule(number: &[u8], rights: &[u8], lock: Words) -> Result<(u8, u8), Flaw>
     ensures rule { result ≡ rule_said number.now rights.now (words lock.entry.rest.now) }
@@ -201,7 +201,7 @@ fn read_rule(number: &[u8], rights: &[u8], lock: Words) -> Result<(u8, u8), Flaw
     Ok((number, lock + rights))
 }
 
-/// What a line says of an entry that isn't off.
+/// Returns what a line says about an entry that isn't off.
 fn read_range(number: &[u8], matching: &[u8], mut operands: Words) -> Result<EntryLine, Flaw>
     ensures { result ≡ range_said number.now matching.now (words operands.entry.rest.now) }
 {
@@ -222,7 +222,7 @@ fn read_range(number: &[u8], matching: &[u8], mut operands: Words) -> Result<Ent
     })
 }
 
-/// What a line says of an entry that is off.
+/// Returns what a line says about an entry that is off.
 fn read_off(number: &[u8], mut operands: Words) -> Result<EntryLine, Flaw>
     ensures { result ≡ off_said number.now (words operands.entry.rest.now) }
 {
@@ -237,7 +237,7 @@ fn read_off(number: &[u8], mut operands: Words) -> Result<EntryLine, Flaw>
     })
 }
 
-/// What a line says of an entry.
+/// Returns what a line says about an entry.
 fn read_entry(mut operands: Words) -> Result<EntryLine, Flaw>
     ensures { result ≡ entry_line (words operands.entry.rest.now) }
 {
@@ -251,7 +251,7 @@ fn read_entry(mut operands: Words) -> Result<EntryLine, Flaw>
     }
 }
 
-/// What a line of version 3 says that stands for writes, if it does.
+/// Returns what a shorthand line of version 3 says, if it is one.
 #[tactic(auto, unfolding(crate::specs::Shorthands::shorthand_of))]
 pub fn read_shorthand(line: &[u8]) -> Option<Result<Shorthand, Flaw>>
     ensures { result ≡ shorthand_of (words line.now) }
@@ -271,7 +271,7 @@ pub fn read_shorthand(line: &[u8]) -> Option<Result<Shorthand, Flaw>>
     }
 }
 
-/// The write of an entry's byte, with those of the others as they read.
+/// Returns the write of an entry's byte, with the other bytes as they read.
 fn byte_write(file: &RegFile, number: u8, byte: u8) -> Event
     ensures { result ≡ byte_write file.now number byte }
 {
@@ -283,7 +283,7 @@ fn byte_write(file: &RegFile, number: u8, byte: u8) -> Event
     Event::Write(csr, u64::from_le_bytes(bytes))
 }
 
-/// The word address at which a top of range begins.
+/// Returns the word address at which a top of range begins.
 fn low_end(file: &RegFile, number: u8) -> u64
     ensures { result ≡ low_end file.now number }
 {
@@ -304,7 +304,7 @@ fn can_stand(file: &RegFile, number: u8, place: Place) -> bool
     begins && !(file.hart().profile().is_rv32 && place.address >= 1 << 32)
 }
 
-/// The writes of an entry.
+/// Returns the writes of an entry.
 fn entry_writes(file: &RegFile, line: EntryLine) -> Result<Writes, Flaw>
     ensures { result ≡ entry_writes file.now line }
 {
@@ -329,7 +329,7 @@ fn one(last: Event) -> Writes
 }
 
 impl Shorthand {
-    /// The writes that it stands for in this file.
+    /// Returns the writes that it stands for in this file.
     pub fn writes(self, file: &RegFile) -> Result<Writes, Flaw>
         ensures { result ≡ writes_of file.now self }
     {

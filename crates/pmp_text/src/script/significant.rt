@@ -1,4 +1,4 @@
-//! The significant lines of a text, one after the other.
+//! The significant lines of a text, one after another.
 
 ghost use Rattle.std.specs.Prelude.{◌≡◌, ◌+◌, ◌<◌, ◌^◌, length};
 ghost use Rattle.std.specs.Iterator.{YieldsFirstBy, item_count};
@@ -25,11 +25,11 @@ fn is_significant(line: &[u8]) -> bool
     }
 }
 
-/// The significant lines that are left of a text.
+/// The remaining significant lines of a text.
 #[derive(Drop)]
 pub struct SignificantLines<'a> {
     rest: &'a [u8],
-    /// The number of the first line that is left.
+    /// The number of the first remaining line.
     number: u64,
     ghost countable: { number + length rest.now < 2 ^ 64 },
 }

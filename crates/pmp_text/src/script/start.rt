@@ -1,4 +1,4 @@
-//! Where the unit of a script with a head begins.
+//! The initial registers of a script with a head.
 
 ghost use Rattle.std.specs.Prelude.{◌≡◌, ◌+◌, ◌≤◌, IfErr, IfOk, None, Some, find, fold, option_map, unwrap_or};
 ghost use Rattle.pmp_text.specs.Heads.{bits_fault, first_not_held, hart_said, is_kept, kept_value, says_bits, started};
@@ -19,7 +19,7 @@ use pmp_core::{
     Csr, Hart, MAX_ADDRESS_BITS, MAX_ENTRIES, MID_ADDRESS_BITS, Profile, RegFile, SavedRegisters,
 };
 
-/// Puts so many bytes of a value, lowest first, over those of the entries from the first on.
+/// Puts `count` bytes of a value, lowest first, over those of the entries from `first` on.
 fn set_bytes(saved: &mut SavedRegisters, first: usize, count: usize, value: u64)
     requires value { count ≤ 8 }
     requires entries { first + count ≤ MAX_ENTRIES }
@@ -49,7 +49,7 @@ fn set_register(hart: &Hart, saved: &mut SavedRegisters, register: Csr, value: u
     }
 }
 
-/// Does what a line of the head says of a register.
+/// Does what a line of the head says about a register.
 fn set_line(hart: &Hart, saved: &mut SavedRegisters, statement: HeadStatement)
     ensures { saved.new ≡ with_set hart.now saved.old statement }
 {
@@ -59,7 +59,7 @@ fn set_line(hart: &Hart, saved: &mut SavedRegisters, statement: HeadStatement)
     }
 }
 
-/// Does what lines of the head say of registers.
+/// Does what lines of the head say about registers.
 fn set_lines(hart: &Hart, saved: &mut SavedRegisters, lines: &[HeadLine])
     ensures { saved.new ≡ fold (λ saved line. with_set hart.now saved line.statement) saved.old lines.now }
 {
@@ -68,7 +68,7 @@ fn set_lines(hart: &Hart, saved: &mut SavedRegisters, lines: &[HeadLine])
     }
 }
 
-/// All that a register keeps.
+/// Returns all that a register keeps.
 pub(super) fn kept_value(file: &RegFile, register: Csr) -> u64
     ensures { result ≡ kept_value file.now register }
 {
@@ -90,7 +90,7 @@ fn is_kept(file: &RegFile, statement: HeadStatement) -> bool
     }
 }
 
-/// The line of the first value that its register doesn't keep.
+/// Returns the line of the first value that its register doesn't keep.
 fn first_not_held(file: &RegFile, lines: &[HeadLine]) -> Option<u64>
     ensures { result ≡ first_not_held file.now lines.now }
 {
@@ -104,7 +104,7 @@ fn says_bits(statement: HeadStatement) -> bool
     matches!(statement, HeadStatement::Hart(HartField::Bits(_)))
 }
 
-/// The line that says how many bits an address has, or 0.
+/// Returns the line that gives the number of address bits, or 0.
 fn line_of_bits(lines: &[HeadLine]) -> u64
     ensures { result ≡ unwrap_or (option_map (λ line. line.line) (find (λ line. says_bits line.statement) lines.now)) 0 }
 {
@@ -114,7 +114,7 @@ fn line_of_bits(lines: &[HeadLine]) -> u64
     }
 }
 
-/// What is said of a hart, with as many address bits as its XLEN allows where nothing is said of them.
+/// Returns what is said about a hart, with as many address bits as its XLEN allows if none are given.
 fn with_bits(said: Profile) -> Profile
     ensures { result ≡ with_bits said }
 {
@@ -132,7 +132,7 @@ fn with_bits(said: Profile) -> Profile
     }
 }
 
-/// The hart that a head says, if there is one.
+/// Returns the hart that a head describes, if there is one.
 #[tactic(auto, unfolding(crate::specs::Heads::bits_fault))]
 fn hart_of(head: &Head) -> Result<Hart, ScriptFault>
     requires { IsHead head.now }
@@ -146,7 +146,7 @@ fn hart_of(head: &Head) -> Result<Hart, ScriptFault>
     }
 }
 
-/// The register file of this hart that the lines of a head say.
+/// Returns the register file of this hart that the lines of a head describe.
 fn start_on(hart: Hart, lines: &[HeadLine]) -> RegFile
     ensures { result ≡ start_on hart lines.now }
 {
@@ -155,7 +155,7 @@ fn start_on(hart: Hart, lines: &[HeadLine]) -> RegFile
     RegFile::restore(&saved)
 }
 
-/// The register file that a head says, so far; where there is no such hart, that of the usual one.
+/// Returns the register file that a head describes so far, or that of the usual hart if there is no such hart.
 pub(super) fn file_said(head: &Head) -> RegFile
     requires { IsHead head.now }
     ensures { result ≡ file_said head.now.lines.items }
@@ -166,7 +166,7 @@ pub(super) fn file_said(head: &Head) -> RegFile
     }
 }
 
-/// The fault of a value that its register doesn't keep.
+/// Returns the fault of a value that its register doesn't keep.
 fn not_held(file: &RegFile, lines: &[HeadLine]) -> Option<ScriptFault>
     ensures { result ≡ option_map (λ number. at_line number (part 2 NotHeld)) (first_not_held file.now lines.now) }
 {
@@ -174,7 +174,7 @@ fn not_held(file: &RegFile, lines: &[HeadLine]) -> Option<ScriptFault>
     Some(Refusal::NotHeld.part(2).at_line(line))
 }
 
-/// The fault that the whole head shows of this file.
+/// Returns the fault that the whole head has on this file.
 #[tactic(auto, unfolding(crate::specs::Heads::fault_on))]
 fn fault_on(file: &RegFile, lines: &[HeadLine], expected: &[Expectation]) -> Option<ScriptFault>
     ensures { result ≡ fault_on file.now lines.now expected.now }
@@ -185,8 +185,8 @@ fn fault_on(file: &RegFile, lines: &[HeadLine], expected: &[Expectation]) -> Opt
         .or(not_held(file, lines))
 }
 
-/// The register file that a head says, if its hart has what it and the expectations name, and its registers keep the
-/// values that they are set to.
+/// Returns the register file that a head describes, if its hart has what the head and the expectations name, and its
+/// registers keep the values that they are set to.
 pub fn start(head: &Head, expected: &[Expectation]) -> Result<RegFile, ScriptFault>
     requires { IsHead head.now }
     ensures { result ≡ started head.now.lines.items expected.now }

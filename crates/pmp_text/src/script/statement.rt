@@ -1,4 +1,4 @@
-//! What one line of a script says.
+//! What a line of a script says.
 
 ghost use Rattle.std.specs.Prelude.{◌≡◌, Err, IfErr, IfOk, Ok};
 ghost use Rattle.pmp_text.specs.Heads.{is_same, same_register};
@@ -22,7 +22,7 @@ use pmp_core::{Csr, Event};
 pub enum Statement {
     /// The event joins the open batch.
     Event(Event),
-    /// The open batch becomes a publication, and an empty one is opened. The moment behind it may have a name.
+    /// The open batch becomes a publication, and an empty one is opened. The moment after it may have a name.
     Publish(Option<Name>),
     /// The moment here has a name.
     Mark(Name),
@@ -59,7 +59,7 @@ impl HeadStatement {
     }
 }
 
-/// Two operands, and no more.
+/// Returns two operands, if there are no more.
 fn read_two<'a>(mut operands: Words<'a>) -> Result<(&'a [u8], &'a [u8]), Flaw>
     ensures ok { IfOk result (λ two. two_of (words operands.entry.rest.now) ≡ Ok (two.0.now, two.1.now)) }
     ensures err { IfErr result (λ flaw. two_of (words operands.entry.rest.now) ≡ Err flaw) }
@@ -73,7 +73,7 @@ fn read_two<'a>(mut operands: Words<'a>) -> Result<(&'a [u8], &'a [u8]), Flaw>
     }
 }
 
-/// A register and a value.
+/// Returns a register and a value.
 pub(super) fn read_assignment(version: Version, operands: Words) -> Result<(Csr, u64), Flaw>
     ensures { result ≡ assignment version (words operands.entry.rest.now) }
 {
@@ -83,7 +83,7 @@ pub(super) fn read_assignment(version: Version, operands: Words) -> Result<(Csr,
     Ok((csr, value))
 }
 
-/// The statement, where no word is left behind it.
+/// Returns the statement, if no word is left after it.
 fn without_operands(statement: Statement, mut operands: Words) -> Result<Statement, Flaw>
     ensures { result ≡ without_operands statement (words operands.entry.rest.now) }
 {
@@ -93,7 +93,7 @@ fn without_operands(statement: Statement, mut operands: Words) -> Result<Stateme
     }
 }
 
-/// A moment's name, if there is one, and no more.
+/// Returns a moment's name, if there is one and nothing more.
 fn read_name(mut operands: Words) -> Result<Option<Name>, Flaw>
     ensures { result ≡ name_of (words operands.entry.rest.now) }
 {
@@ -106,7 +106,7 @@ fn read_name(mut operands: Words) -> Result<Option<Name>, Flaw>
     }
 }
 
-/// What `publish` says.
+/// Returns what a `publish` line says.
 fn read_publish(version: Version, operands: Words) -> Result<Statement, Flaw>
     ensures { result ≡ publish_statement version (words operands.entry.rest.now) }
 {
@@ -116,7 +116,7 @@ fn read_publish(version: Version, operands: Words) -> Result<Statement, Flaw>
     }
 }
 
-/// What a line says that only version 3 has.
+/// Returns what a line says that only version 3 has.
 fn read_head_statement(word: &[u8], operands: Words) -> Result<Statement, Flaw>
     ensures { result ≡ head_statement word.now (words operands.entry.rest.now) }
 {
@@ -140,7 +140,7 @@ fn read_head_statement(word: &[u8], operands: Words) -> Result<Statement, Flaw>
     }
 }
 
-/// What a significant line says that isn't the first one.
+/// Returns what a significant line says that isn't the first one.
 #[tactic(auto, unfolding(crate::specs::Statements::statement_of))]
 pub fn read_statement(version: Version, line: &[u8]) -> Result<Statement, Flaw>
     ensures { result ≡ statement_of version (words line.now) }

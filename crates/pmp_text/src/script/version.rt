@@ -16,12 +16,12 @@ use pmp_core::Size;
 pub enum Version {
     /// Version 1 or 2: for the usual hart of this size.
     Sized(Size),
-    /// Version 3: a head says the hart and what its registers have before the first event.
+    /// Version 3: a head describes the hart and what its registers have before the first event.
     Headed,
 }
 
 impl Version {
-    /// Whether a line may name a register that RV32 alone has.
+    /// Whether a line may name a register that only RV32 has.
     pub fn has_rv32(self) -> bool
         ensures { result ≡ has_rv32 self }
     {
@@ -32,7 +32,7 @@ impl Version {
     }
 }
 
-/// The version with this number.
+/// Returns the version with this number.
 fn version_numbered(number: &[u8]) -> Option<Version>
     ensures { result ≡ version_numbered number.now }
 {
@@ -44,7 +44,7 @@ fn version_numbered(number: &[u8]) -> Option<Version>
     }
 }
 
-/// The version that a script's first line names.
+/// Returns the version that a script's first line names.
 #[tactic(auto, unfolding(crate::specs::ScriptLines::version_named))]
 pub fn read_version(line: &[u8]) -> Result<Version, Flaw>
     ensures ok { IfOk result (λ version. version_named (words line.now) ≡ Some version) }

@@ -1,4 +1,4 @@
-//! The words of a line, one after the other.
+//! The words of a line, one after another.
 
 ghost use Rattle.std.specs.Prelude.{◌≡◌, [], ◌∷◌, MatchOption, not, position};
 ghost use Rattle.std.specs.List.{before_first, after_first};
@@ -23,7 +23,7 @@ fn first_unblank(line: &[u8]) -> Option<usize>
     line.iter().position(|byte| !is_blank_byte(*byte))
 }
 
-/// What stands before the first blank, and what stands after it.
+/// Returns the text before the first blank, and the text after it.
 fn split_at_blank(line: &[u8]) -> (&[u8], &[u8])
     ensures word { result.0.now ≡ before_first is_blank line.now }
     ensures rest { result.1.now ≡ after_first is_blank line.now }
@@ -34,7 +34,7 @@ fn split_at_blank(line: &[u8]) -> (&[u8], &[u8])
     }
 }
 
-/// The first word of a line and what stands after it, or nothing where the line has no word.
+/// Returns the first word of a line and the text after it, or nothing if the line has no word.
 fn split_first_word(line: &[u8]) -> Option<(&[u8], &[u8])>
     ensures { MatchOption result (words line.now ≡ []) (λ parts. words line.now ≡ parts.0.now ∷ words parts.1.now) }
 {
@@ -42,7 +42,7 @@ fn split_first_word(line: &[u8]) -> Option<(&[u8], &[u8])>
     Some(split_at_blank(&line[start..]))
 }
 
-/// The words that are left of a line.
+/// The remaining words of a line.
 #[derive(Drop)]
 pub struct Words<'a> {
     rest: &'a [u8],
@@ -55,7 +55,7 @@ impl<'a> Words<'a> {
         Words { rest: line }
     }
 
-    /// The rest of the line, which the words are of.
+    /// Returns the rest of the line, which contains the remaining words.
     pub fn rest(&self) -> &'a [u8]
         ensures { result.now ≡ self.now.rest.now }
     {

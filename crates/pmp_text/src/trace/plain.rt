@@ -1,4 +1,4 @@
-//! Plain lines of a trace: words between commas with no quote among them, read where they stand, without `csv`.
+//! Plain lines of a trace: words between commas without quotes, read in place, without `csv`.
 
 ghost use Rattle.std.specs.Prelude.{◌≡◌, ◌∷◌, ◌++◌, IfSome, List, ℕ, false, true};
 ghost use Rattle.csv.specs.Quoting.{needs_byte};
@@ -9,10 +9,10 @@ ghost use Rattle.pmp_text.specs.Traces.{is_header};
 
 use crate::trace::row_fields::Words;
 
-/// What a text begins with that names the fields of the rows.
+/// The beginning of a text that names the fields of the rows.
 const HEADER: &[u8] = b"after,mode,kind,start,length";
 
-/// The word of a text behind this byte, and what stands behind the word: a comma, a quote or a line's end comes first.
+/// Returns the word after this byte and the text after the word, which begins with a comma, a quote or a line end.
 fn word_behind(before: u8, text: &[u8]) -> Option<(&[u8], &[u8])>
     ensures { IfSome result (λ cut. (text.now ≡ before ∷ (cut.0.now ++ cut.1.now))
         × (needs_quotes default_writer cut.0.now ≡ false)) }
@@ -29,14 +29,14 @@ fn word_behind(before: u8, text: &[u8]) -> Option<(&[u8], &[u8])>
     None
 }
 
-/// Whether a byte ends a word of a plain line, or may not stand in one.
+/// Whether a byte ends a word of a plain line, or can't be part of one.
 pub fn is_apart(byte: u8) -> bool
     ensures { result ≡ needs_byte default_writer byte }
 {
     byte <= b',' && matches!(byte, b',' | b'"' | b'\r' | b'\n')
 }
 
-/// The words of a line between two LF, if it is a plain line of five, and the text from its own LF on.
+/// Returns the words of a line between two LF, if it is a plain line of five, and the text from its own LF on.
 pub fn plain_line(text: &[u8]) -> Option<(Words<'_>, &[u8])>
     ensures { IfSome result (λ line. (records_of text.now ≡ five_words (seen_five line.0) ∷ records_of line.1.now)
         × (is_broken (five_words (seen_five line.0)) ≡ false)) }
@@ -60,7 +60,7 @@ pub fn plain_line(text: &[u8]) -> Option<(Words<'_>, &[u8])>
     Some((words, text))
 }
 
-/// The text from the header's LF on, where the header is a plain line.
+/// Returns the text from the header's LF on, if the header is a plain line.
 pub fn behind_plain_header(text: &[u8]) -> Option<&[u8]>
     ensures { IfSome result (λ rest. (header : List (List ℕ)) × (is_header header ≡ true)
         × (records_of text.now ≡ header ∷ records_of rest.now)) }

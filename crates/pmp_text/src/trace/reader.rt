@@ -1,4 +1,4 @@
-//! Reading a trace whole: its rows, or its first fault.
+//! Reading a whole trace: its rows, or its first fault.
 
 ghost use Rattle.std.specs.Prelude.{◌≡◌, ◌+◌, ◌^◌, ◌<◌, IfOk, None, length, map};
 ghost use Rattle.pmp_text.specs.LongTraces.{long_rows_meaning};
@@ -12,10 +12,10 @@ use crate::trace::rows::{Place, RowReader};
 use crate::trace::{Row, TraceFault};
 use std::alloc::Global;
 
-/// The most bytes of a trace.
+/// The greatest length of a trace, in bytes.
 pub const MAX_TRACE: usize = 1 << 24;
 
-/// The rows that are left, of which the first is the first of a trace, else the first fault.
+/// Returns the remaining rows, which begin with the first row of a trace, else the first fault.
 fn read_rows(alloc: Global, left: &mut RowReader<'_>) -> Result<Vec<Row>, TraceFault>
     requires first { left.old.place.last ≡ None }
     requires numbered { left.old.place.next + length left.old.records < 2 ^ 64 }
@@ -29,9 +29,9 @@ fn read_rows(alloc: Global, left: &mut RowReader<'_>) -> Result<Vec<Row>, TraceF
     Ok(rows)
 }
 
-/// The rows of the trace that a text describes, beside a script with these moments, else its first fault. The
-/// time is linear in the text, and only the rows and one record take memory: where they can't grow, `Memory` is
-/// answered in place of any fault further on.
+/// Returns the rows of the trace that a text describes, for a script with these moments, else its first fault. The time
+/// is linear in the text, and only the rows and one record take memory: if they can't grow, `Memory` is returned
+/// instead of any later fault.
 pub fn read_trace(alloc: Global, text: &[u8], moments: &Moments<'_>) -> Result<Vec<Row>, TraceFault>
     ensures given { GivesRows (λ rows. map row_fields rows.items) result (trace_meaning moments.now text.now) }
     ensures ordered { IfOk result (λ rows. IsInOrder moments.now.publications 0 (afters (map row_fields rows.items))) }

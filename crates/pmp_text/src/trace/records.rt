@@ -1,4 +1,4 @@
-//! The records of a trace or a policy, one after the other.
+//! The records of a trace or a policy, one after another.
 
 ghost use Rattle.std.specs.Prelude.{◌≡◌, ◌⊎◌, ◌∷◌, [], true, false, Ok, IfErr};
 ghost use Rattle.csv.specs.Records.{fields_of};
@@ -11,7 +11,7 @@ use csv::{ByteRecord, Reader, ReaderBuilder};
 use std::alloc::Global;
 use std::marker::Model;
 
-/// The records of a text. A contract sees those that are left, and the fields of the one that was read.
+/// The records of a text. A contract sees the remaining ones, and the fields of the one read last.
 #[derive(Drop)]
 pub struct Records<'a> {
     reader: Reader<&'a [u8]>,
@@ -36,7 +36,7 @@ impl<'a> Model for Records<'a> {
 }
 
 impl<'a> Records<'a> {
-    /// Those of a text from its beginning on. They may differ in length, and none is taken away as a header.
+    /// Returns the records of a whole text. They may differ in length, and none is removed as a header.
     pub fn open(alloc: Global, text: &'a [u8]) -> Records<'a>
         ensures { result.left ≡ records_of text.now }
     {
@@ -51,7 +51,7 @@ impl<'a> Records<'a> {
         }
     }
 
-    /// Reads the next record, if there is one, and answers whether there was. After an error none is left.
+    /// Reads the next record, if there is one, and returns whether there was one. After an error none is left.
     pub fn read(&mut self) -> Result<bool, TraceFault>
         ensures next { result ≡ Ok true → self.old.left ≡ self.new.fields ∷ self.new.left }
         ensures end { result ≡ Ok false → (self.old.left ≡ []) × (self.new.left ≡ []) }
@@ -66,7 +66,7 @@ impl<'a> Records<'a> {
         Ok(found)
     }
 
-    /// The fields of the record that was read last.
+    /// Returns the fields of the record that was read last.
     pub fn fields(&self) -> &ByteRecord
         ensures { fields_of result.now ≡ self.now.fields }
     {

@@ -1,4 +1,4 @@
-//! What one record of a trace says.
+//! The contents of one record of a trace.
 
 ghost use Rattle.std.specs.Prelude.{◌≡◌, ◌∷◌, [], IfOk, IfErr, None, Ok, Some, option_map};
 ghost use Rattle.csv.specs.Records.{fields_of};
@@ -41,7 +41,7 @@ pub struct Words<'a> {
     pub length: &'a [u8],
 }
 
-/// The fields of a record that has five.
+/// Returns the fields of a record that has five.
 #[tactic(auto, using(crate::proofs::Fields::by_places))]
 fn five_fields(fields: &ByteRecord) -> Option<Words<'_>>
     ensures { option_map seen_five result ≡ five_fields (fields_of fields.now) }
@@ -64,7 +64,7 @@ fn has_line_end(field: &[u8]) -> bool
     field.iter().any(|byte| matches!(*byte, b'\r' | b'\n'))
 }
 
-/// Whether a record names the fields of the rows.
+/// Whether a record is the header of the rows.
 pub fn is_header(fields: &ByteRecord) -> bool
     ensures { result ≡ is_header (fields_of fields.now) }
 {
@@ -79,7 +79,7 @@ pub fn is_header(fields: &ByteRecord) -> bool
 }
 
 impl Words<'_> {
-    /// Whether one of them has a line end, so that the record goes over several lines.
+    /// Whether one of them has a line end, so that the record spans several lines.
     fn have_line_end(self) -> bool
         ensures { result ≡ is_broken (self.entry.after.now ∷ self.entry.mode.now ∷ self.entry.kind.now
             ∷ self.entry.start.now ∷ self.entry.length.now ∷ []) }
@@ -93,7 +93,7 @@ impl Words<'_> {
 }
 
 impl RowFields {
-    /// What a record says as a row, or which field says nothing: all of them where the record goes over several lines.
+    /// Returns what a record says as a row, or which field is invalid: all of them if the record spans several lines.
     pub fn read(fields: &ByteRecord, moments: &Moments<'_>) -> Result<RowFields, Flaw>
         ensures { result ≡ row_in moments.now (fields_of fields.now) }
     {
@@ -107,7 +107,7 @@ impl RowFields {
         }
     }
 
-    /// What the five fields of a record say, or which one says nothing.
+    /// Returns what the five fields of a record say, or which one is invalid.
     pub fn of_words(words: Words<'_>, moments: &Moments<'_>) -> Result<RowFields, Flaw>
         ensures { result ≡ row_of_fields moments.now (seen_five words.entry) }
     {
@@ -124,7 +124,7 @@ impl RowFields {
         })
     }
 
-    /// The row, beside a script with so many publications and behind a row that asks for `last`.
+    /// Returns the row, for a script with the given number of publications and after a row that asks for `last`.
     pub fn check(self, publications: u64, last: Option<u64>) -> Result<Row, Flaw>
         ensures ok { IfOk result (λ row. (fields_fault publications last self ≡ None) × (row_fields row ≡ self)) }
         ensures err { IfErr result (λ flaw. fields_fault publications last self ≡ Some flaw) }

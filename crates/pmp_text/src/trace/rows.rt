@@ -1,4 +1,4 @@
-//! The rows of a piece of a trace, one after the other, read where the piece stands.
+//! The rows of a piece of a trace, one after another, read at the position of the piece.
 
 ghost use Rattle.std.specs.Prelude.{◌≡◌, ◌+◌, ◌^◌, ◌<◌, ◌≤◌, ◌⊎◌, ◌∷◌, [], IfErr, IfOk, IfSome, List, ℕ, None, Ok};
 ghost use Rattle.std.specs.Prelude.{Some, if◌then◌else◌};
@@ -21,21 +21,21 @@ use crate::trace::{Row, TraceFault};
 use std::alloc::Global;
 use std::marker::Model;
 
-/// Where a piece of a trace stands.
+/// The position of a piece of a trace.
 #[derive(Clone, Copy, PartialEq, Eq)]
 pub struct Place {
     /// Whether the header was read.
     pub begun: bool,
-    /// How many publications the row before asks for, where there is one.
+    /// How many publications the previous row asks for, if there is one.
     pub last: Option<u64>,
     /// The number of the next row.
     pub next: u64,
-    /// The number of the first row whose start is 14 digits without `0x`, where one was read.
+    /// The number of the first row whose start is 14 digits without `0x`, if one was read.
     pub bare: Option<u64>,
 }
 
 impl Place {
-    /// Where a trace begins whose first row has this number.
+    /// Returns the position where a trace begins whose first row has this number.
     pub fn beginning(first: u64) -> Place
         ensures { result ≡ beginning first }
     {
@@ -47,7 +47,7 @@ impl Place {
         }
     }
 
-    /// The place behind one more row. Where its number is the last one there is, the trace is too long.
+    /// Returns the position after one more row. If its number is the last one there is, the trace is too long.
     fn behind(self, row: &Row) -> Result<Place, TraceFault>
         ensures ok { IfOk result (λ place. (self.next + 1 < 2 ^ 64) × (place ≡ place_after self row.now)) }
         ensures err { IfErr result (λ fault. (fault ≡ too_long_for_rows) × (2 ^ 64 ≤ self.next + 1)) }
@@ -65,17 +65,17 @@ impl Place {
     }
 }
 
-/// What a record says as a row, or what of it says nothing.
+/// What a record says as a row, or what is invalid in it.
 type Said = Result<RowFields, Flaw>;
 
-/// The rows that a piece has left. A contract sees their records, beside which moments of a script they stand, and
-/// where.
+/// The remaining rows of a piece. A contract sees their records, the moments of the script they refer to, and their
+/// position.
 #[derive(Drop)]
 pub struct RowReader<'a> {
     alloc: Global,
-    /// The text from the line's end before the next row on, as long as each line was plain.
+    /// The text from the line end before the next row on, while all lines so far were plain.
     lines: Option<&'a [u8]>,
-    /// What is left once a line isn't plain.
+    /// The remaining text once a line isn't plain.
     records: Records<'a>,
     moments: &'a Moments<'a>,
     place: Place,
@@ -95,7 +95,7 @@ impl<'a> Model for RowReader<'a> {
     } };
 }
 
-/// What the next record says, if there is one.
+/// Returns what the next record says, if there is one.
 fn next_said(records: &mut Records<'_>, moments: &Moments<'_>) -> Result<Option<Said>, TraceFault>
     ensures some { IfOk result (λ found. IfSome found (λ said.
         IsNext moments.now records.old.left said records.new.left)) }
@@ -110,10 +110,10 @@ fn next_said(records: &mut Records<'_>, moments: &Moments<'_>) -> Result<Option<
 }
 
 impl<'a> RowReader<'a> {
-    /// The rows of a piece that stands there, beside a script with these moments, else the header's fault.
+    /// Returns the rows of a piece at that position, for a script with these moments, else the header's fault.
     ///
-    /// A piece that isn't the first one begins with the line's end before it, since a byte-order mark counts where a
-    /// text begins.
+    /// A piece that isn't the first one begins with the preceding line end, because a byte-order mark is recognized at
+    /// the beginning of a text.
     pub fn open(
         alloc: Global,
         text: &'a [u8],
@@ -152,14 +152,14 @@ impl<'a> RowReader<'a> {
         Ok(rows)
     }
 
-    /// Where the next row stands.
+    /// Returns the position of the next row.
     pub fn place(&self) -> Place
         ensures { result ≡ self.now.place }
     {
         self.place
     }
 
-    /// What the next record says, if there is one.
+    /// Returns what the next record says, if there is one.
     fn next_fields(&mut self) -> Result<Option<Said>, TraceFault>
         ensures some { IfOk result (λ found. IfSome found (λ said.
             IsNext self.old.moments self.old.records said self.new.records)) }
@@ -178,8 +178,8 @@ impl<'a> RowReader<'a> {
         Ok(Some(RowFields::of_words(words, self.moments)))
     }
 
-    /// What the next record says, if there is one, where what is left is no plain line. It stands alone since each row
-    /// would else clear the room of a reader.
+    /// Returns what the next record says, if there is one, when no plain line is left. It is out of line so that rows
+    /// needn't clear the room of a reader.
     #[cold]
     #[inline(never)]
     fn leave_lines(&mut self, text: &'a [u8]) -> Result<Option<Said>, TraceFault>
@@ -196,7 +196,7 @@ impl<'a> RowReader<'a> {
         next_said(&mut self.records, self.moments)
     }
 
-    /// The next row, if there is one. After an error no more is said of what is left.
+    /// Returns the next row, if there is one. After an error the state of the rest is unspecified.
     pub fn next(&mut self) -> Result<Option<Row>, TraceFault>
         ensures row { IfOk result (λ found. IfSome found (λ row. IsNextRow self.old row self.new)) }
         ensures end { result ≡ Ok None → (self.old.records ≡ []) × (self.new ≡ self.old) }

@@ -1,8 +1,8 @@
-//! The fields of rows, as an explanation says what was wanted in them.
+//! The fields of rows, as an explanation describes what was wanted in them.
 
 use pmp_text::{COMMENT, NAME};
 
-/// Those of a trace.
+/// The fields of a trace.
 const TRACE: [&str; 5] = [
     "after: a number of publications, or with pmp 3 last, last-N or a name of the script's",
     "mode: M, S or U",
@@ -11,7 +11,7 @@ const TRACE: [&str; 5] = [
     "length: a number of bytes",
 ];
 
-/// Those of a policy, in the order by which its faults tell them: a name and a comment stand last.
+/// The fields of a policy, in the order of the indices in its faults: a name and a comment come last.
 const POLICY: [&str; 9] = [
     "from: a number of publications, or with pmp 3 last, last-N, mml, mmwp or rlb-clear",
     "to: a number of publications that isn't below from, or nothing for all, or with pmp 3 last, last-N, mml, mmwp or rlb-clear",
@@ -24,14 +24,14 @@ const POLICY: [&str; 9] = [
     "comment: any text without control bytes, or nothing",
 ];
 
-/// Those of names.
+/// The fields of names.
 const NAMES: [&str; 3] = [
     "first: a byte address, in decimal or with 0x",
     "last: a byte address that isn't below first, in decimal or with 0x",
     "name: 1 to 64 printable bytes without blanks, quotes, + and commas, not beginning with a digit",
 ];
 
-/// Those of a plan.
+/// The fields of a plan.
 const PLAN: [&str; 6] = [
     "first: a byte address, in decimal or with 0x",
     "last: a byte address that isn't below first, in decimal or with 0x",
@@ -41,7 +41,7 @@ const PLAN: [&str; 6] = [
     "name: 1 to 64 printable bytes without blanks, quotes, + and commas, not beginning with a digit",
 ];
 
-/// What the field of a plan with this index has to be.
+/// Returns what the field of a plan with this index must be.
 pub fn plan_field(index: usize) -> Option<&'static str> {
     PLAN.get(index).copied()
 }
@@ -51,12 +51,12 @@ pub fn is_range_address(index: Option<usize>) -> bool {
     matches!(index, Some(0 | 1))
 }
 
-/// What the field of names with this index has to be.
+/// Returns what the field of names with this index must be.
 pub fn names_field(index: usize) -> Option<&'static str> {
     NAMES.get(index).copied()
 }
 
-/// What the field of a trace with this index has to be.
+/// Returns what the field of a trace with this index must be.
 pub fn trace_field(index: usize) -> Option<&'static str> {
     TRACE.get(index).copied()
 }
@@ -71,7 +71,7 @@ pub fn is_policy_address(index: Option<usize>) -> bool {
     matches!(index, Some(4 | 5))
 }
 
-/// Where the field of a policy with this index stands in the rows below this header, from 0.
+/// Returns the position of the field of a policy with this index in the rows below this header, from 0.
 pub fn policy_place(header: &[u8], index: usize) -> usize {
     let last = header.iter().filter(|byte| **byte == b',').count();
     match index {
@@ -82,7 +82,7 @@ pub fn policy_place(header: &[u8], index: usize) -> usize {
     }
 }
 
-/// What the field of a policy with this index has to be.
+/// Returns what the field of a policy with this index must be.
 pub fn policy_field(index: usize) -> Option<&'static str> {
     POLICY.get(index).copied()
 }

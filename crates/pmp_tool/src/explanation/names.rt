@@ -5,10 +5,10 @@ use crate::kept::KeptInput;
 use pmp_text::{GrowingLog, Mark, read_script};
 use std::alloc::{AllocError, Global};
 
-/// The most names that are listed.
+/// The greatest number of names that are listed.
 const NAMES: usize = 16;
 
-/// Lists the first names that a script gives its moments, where it can be read, and says how many more there are.
+/// Lists the first names that a script gives its moments, if it can be read, and says how many more there are.
 pub fn write_names(alloc: Global, text: &mut String, input: &KeptInput) -> Result<(), AllocError> {
     let mut log = GrowingLog::new(alloc);
     let Ok(script) = read_script(&mut log, &input.bytes) else {

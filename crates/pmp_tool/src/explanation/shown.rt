@@ -2,7 +2,7 @@
 
 use std::alloc::AllocError;
 
-/// A byte of a line: a tab as a blank, and one that is no ASCII sign, as a control byte, as a question mark.
+/// Shows a byte of a line: a tab as a space, and any other control or non-ASCII byte as a question mark.
 pub fn show_byte(text: &mut String, byte: u8) -> Result<(), AllocError> {
     text.push(match byte {
         b' '..=b'~' => char::from(byte),
@@ -11,7 +11,7 @@ pub fn show_byte(text: &mut String, byte: u8) -> Result<(), AllocError> {
     })
 }
 
-/// A path or a word, with a question mark for each control character.
+/// Shows a path or a word, with a question mark for each control character.
 pub fn show_text(text: &mut String, shown: &str) -> Result<(), AllocError> {
     for sign in shown.chars() {
         text.push(match sign {

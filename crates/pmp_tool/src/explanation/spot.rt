@@ -1,17 +1,17 @@
-//! The line of an input that is at fault, and the part of it that is.
+//! The faulty line of an input, and its faulty part.
 
 use super::shown::{show_byte, show_text};
 use std::alloc::AllocError;
 
-/// How many bytes of a line are shown.
+/// The number of bytes of a line that are shown.
 const SHOWN: usize = 100;
 
 const BYTE_ORDER_MARK: &[u8] = b"\xef\xbb\xbf";
 
-/// How many of them stand before the marked ones.
+/// The number of them before the marked ones.
 const BEFORE: usize = 40;
 
-/// A line of an input, and where the part of it begins and ends that is at fault.
+/// A line of an input, and where its faulty part begins and ends.
 #[derive(Clone, Copy)]
 pub struct Spot<'a> {
     /// From 1.
@@ -22,12 +22,12 @@ pub struct Spot<'a> {
 }
 
 impl<'a> Spot<'a> {
-    /// The line of a script with this number, and its word with this index, from 0.
+    /// Returns the line of a script with this number, and its word with this index, from 0.
     pub fn of_line(text: &'a [u8], number: u64, word: Option<usize>) -> Spot<'a> {
         Spot::new(number, line_at(text, number), word, b" \t")
     }
 
-    /// The line of a row with this number, and its field with this index, from 0; row 0 is the header.
+    /// Returns the line of the row with this number, and its field with this index, from 0; row 0 is the header.
     pub fn of_row(text: &'a [u8], row: u64, field: Option<usize>) -> Option<Spot<'a>> {
         let text = text.strip_prefix(BYTE_ORDER_MARK).unwrap_or(text);
         let (start, number) = row_start(text, row)?;
@@ -35,12 +35,12 @@ impl<'a> Spot<'a> {
         Some(Spot::new(number, line, field, b","))
     }
 
-    /// The line of the header.
+    /// Returns the line of the header.
     pub fn header(text: &'a [u8]) -> &'a [u8] {
         Spot::of_row(text, 0, None).map_or(&[], |spot| spot.line)
     }
 
-    /// The part of a line with this index among those between separators, or else all of it from its first word on.
+    /// Returns the part of a line with this index, between separators, or else the line from its first word on.
     fn new(number: u64, line: &'a [u8], part: Option<usize>, separators: &[u8]) -> Spot<'a> {
         let found = match part {
             Some(index) => part_at(line, index, separators),
@@ -55,7 +55,7 @@ impl<'a> Spot<'a> {
         }
     }
 
-    /// The bytes of the part that is at fault.
+    /// Returns the bytes of the faulty part.
     pub fn marked(self) -> &'a [u8] {
         self.line.get(self.start..self.end).unwrap_or(&[])
     }
@@ -73,7 +73,7 @@ impl<'a> Spot<'a> {
         self.mark(text)
     }
 
-    /// Where the part of the line begins that is shown.
+    /// Returns the beginning of the shown part of the line.
     fn shown_from(self) -> usize {
         self.start.saturating_sub(BEFORE)
     }
@@ -86,7 +86,7 @@ impl<'a> Spot<'a> {
         text.push('\n')
     }
 
-    /// Marks what is at fault below it. An empty field has a mark, too.
+    /// Marks the fault below it. An empty field has a mark, too.
     fn mark(self, text: &mut String) -> Result<(), AllocError> {
         text.push_str("  ")?;
         let from = self.shown_from();
@@ -98,15 +98,15 @@ impl<'a> Spot<'a> {
     }
 }
 
-/// Where a line's first word begins.
+/// Returns the position of a line's first word.
 fn first_word(line: &[u8]) -> usize {
     line.iter()
         .position(|byte| !matches!(*byte, b' ' | b'\t'))
         .unwrap_or(0)
 }
 
-/// Where the part of a line with this index stands. Between commas, but not between blanks, a part may be empty, or
-/// have commas where it stands in quotes.
+/// Returns where the part of a line with this index is. Between commas, but not between blanks, a part may be empty, or
+/// contain commas if it is in quotes.
 fn part_at(line: &[u8], index: usize, separators: &[u8]) -> Option<(usize, usize)> {
     let is_csv = separators.contains(&b',');
     let mut left = index;
@@ -134,7 +134,7 @@ fn is_line_end(byte: u8) -> bool {
     matches!(byte, b'\n' | b'\r')
 }
 
-/// What stands before the first of these ends.
+/// Returns the text before the first of these ends.
 fn until<'a>(text: &'a [u8], ends: &[u8]) -> &'a [u8] {
     match text.iter().position(|byte| ends.contains(byte)) {
         Some(end) => &text[..end],
@@ -142,7 +142,7 @@ fn until<'a>(text: &'a [u8], ends: &[u8]) -> &'a [u8] {
     }
 }
 
-/// The line of a script with this number, from 1, without its line end.
+/// Returns the line of a script with this number, from 1, without its line end.
 fn line_at(text: &[u8], number: u64) -> &[u8] {
     let mut rest = text;
     for _ in 1..number {
@@ -157,9 +157,8 @@ fn line_at(text: &[u8], number: u64) -> &[u8] {
     }
 }
 
-/// Where the record of a row begins, and the number of its line, from 1: the lines that aren't blank are the header,
-/// which is row 0, and then the rows. A line ends by LF, CR, or CR and LF. No row before one at fault has a line end in
-/// a field.
+/// Returns the beginning of a row's record, and its line number, from 1: the nonblank lines are the header, which is
+/// row 0, and then the rows. A line ends with LF, CR, or CR LF. No row before one at fault has a line end in a field.
 fn row_start(text: &[u8], row: u64) -> Option<(usize, u64)> {
     let mut left = row;
     let mut number = 1u64;

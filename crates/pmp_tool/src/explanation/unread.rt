@@ -1,14 +1,14 @@
-//! Words of the command line that are no text.
+//! Words of the command line that are not text.
 
 use pmp_text::{OutputFault, Refusal};
 use std::env::{Env, FillError};
 use std::io::Write;
 use std::str;
 
-/// The most bytes of a word that are looked at.
+/// The greatest number of bytes of a word that are examined.
 const ROOM: usize = 1 << 13;
 
-/// Explains that a word isn't UTF-8, where another one is `--explain`.
+/// Explains that a word isn't UTF-8, if another one is `--explain`.
 pub fn explain_unread<R: Env, E: Write>(
     words: &R,
     refusal: Refusal,
@@ -26,7 +26,7 @@ pub fn explain_unread<R: Env, E: Write>(
     Ok(writeln!(err, "wanted: {wanted}\nto do: {remedy}")?)
 }
 
-/// Whether one of the words is `--explain`, and the number of the first that isn't UTF-8.
+/// Returns whether one of the words is `--explain`, and the number of the first that isn't UTF-8.
 fn look_at<R: Env>(words: &R) -> (bool, Option<usize>) {
     let mut room = [0; ROOM];
     let mut number = None;

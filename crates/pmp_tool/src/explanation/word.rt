@@ -6,7 +6,7 @@ use crate::command_line::parse_words;
 use crate::word::word;
 use std::alloc::{AllocError, Global};
 
-/// The word of an argument.
+/// Returns the word of an argument.
 pub fn word_of<'a>(alloc: Global, words: &'a [String], argument: Argument) -> Option<&'a str> {
     let matches = parse_words(alloc, words).ok()?;
     let (_, found) = matches.subcommand()?;
