@@ -4,7 +4,7 @@ use crate::parts::{PARTS, Part, Parts};
 use pmp_core::ByteRange;
 use pmp_map::ModeRights;
 
-/// The greatest number of pairs of rights that entries give: fifteen.
+/// More than the pairs of rights that entries give, which are fifteen.
 const PAIRS: usize = 16;
 
 /// The remaining parts that one pair of rights is asked for.

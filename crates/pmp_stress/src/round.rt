@@ -20,7 +20,7 @@ use std::time::Clock;
 /// How often the checkers go to threads and return.
 const STRETCHES: u32 = 5;
 
-/// Publications in each stretch, besides one for each question: 400 in all, 200 rounds of a swap.
+/// Publications in each stretch, besides one for each question: with the first, 401 in all, 200 rounds of a swap.
 const PUBLICATIONS: u32 = 75;
 
 #[derive(Drop)]

@@ -75,7 +75,7 @@ pub enum Refusal {
     BadEntry = 59,
     /// A line of a log names a PMP register or one of its events in another form.
     BadEvent = 60,
-    /// A log has no write, and no register, of the hart.
+    /// A log has neither a write nor a register of the hart.
     NoHart = 61,
     /// A word that names no log format.
     BadFormat = 62,
