@@ -125,11 +125,7 @@ fn ask_all(rows: &mut [Judged], state: &State)
 }
 
 /// The rows before the first state.
-fn unjudged(
-    alloc: Global,
-    steps: &Steps<'_>,
-    rows: &[PolicyRow],
-) -> Result<Vec<Judged>, AllocError>
+fn unjudged(alloc: Global, steps: &Steps<'_>, rows: &[PolicyRow]) -> Result<Vec<Judged>, AllocError>
     requires { All (λ row. row.to ≤ length steps.now.script.now.batches) rows.now }
     ensures judged { IfOk result (λ all. All (IsJudged steps.now.pace steps.now.script.now 0) all.items) }
     ensures rows { IfOk result (λ all. rows_of all.items ≡ rows.now) }
