@@ -129,14 +129,13 @@ each_judged R (one ∷ judged) all = (
 )
 
 pub policy_says : (pace : Pace) (script policy : List ℕ) (contents : ScriptContents) (rows : List PolicyRow)
-    (judged : List Judged) (before after text : List ℕ) (summary : PolicySummary) (moments : KnownMoments)
+    (judged : List Judged) (summary : PolicySummary) (moments : KnownMoments)
     → script_meaning script ≡ Ok contents → AreMoments contents moments
     → policy_meaning moments policy ≡ Ok (map policy_fields rows) → rows_of judged ≡ rows
-    → All (λ one. IsVerdict pace contents one.row (told_of one)) judged
-    → AreWritten judged (policy_labels policy) before after summary → before ≡ [] → text ≡ after
-    → PolicySays pace script policy summary text
-policy_says pace script policy contents rows judged before after text summary moments script_means moments_are
-    policy_means same all written empty whole =
+    → All (λ one. IsVerdict pace contents one.row (told_of one)) judged → (text : List ℕ)
+    → AreWritten judged (policy_labels policy) [] text summary → PolicySays pace script policy summary text
+policy_says pace script policy contents rows judged summary moments script_means moments_are policy_means same all text
+    written =
     record {
       contents = contents;
       script_means = script_means;
@@ -146,7 +145,6 @@ policy_says pace script policy contents rows judged before after text summary mo
       policy_means = policy_means ∙ ap (λ (l : List PolicyRow). Ok (map policy_fields l)) (sym same);
       verdicts = verdicts_of judged;
       judged = each_judged (IsVerdict pace contents) judged all;
-      text_is = whole ∙ written.text_is
-          ∙ ap (λ front. front ++ verdicts_text (policy_labels policy) (verdicts_of judged)) empty;
+      text_is = written.text_is;
       counted = written.counted;
     }

@@ -2,7 +2,6 @@
 use Rattle.std.proofs.Common.{◌≡◌, ℕ, ◌+◌, Bool, true, false, cond, not, List, [], ◌∷◌, ◌++◌, length, map, Ok}
 use Rattle.std.proofs.Common.{refl, sym, ap, ◌∙◌}
 use Rattle.std.proofs.lemmas.List.Sums.{sum_by_push}
-use Rattle.std.proofs.lemmas.Slice.Zip.{AllZip-long}
 use Rattle.pmp_core.specs.declared.decision.Decision.{Decision}
 use Rattle.pmp_core.specs.Decision.{IsDecision}
 use Rattle.pmp_text.specs.declared.trace.Row.{Row}
@@ -15,7 +14,7 @@ use Rattle.pmp_text.specs.Traces.{row_fields}
 use Rattle.pmp_text.specs.Moments.{moments_in}
 use Rattle.pmp_audit.specs.declared.trace_audit.Summary.{Summary}
 use Rattle.pmp_audit.specs.Report.{refused_count}
-use Rattle.pmp_audit.specs.TraceAudit.{AuditSays}
+use Rattle.pmp_audit.specs.TraceAudit.{AuditSays, ReportSays}
 
 flipped : (allowed : Bool) → cond {A = ℕ} (not allowed) 1 0 ≡ cond allowed 0 1
 flipped true = refl
@@ -33,26 +32,30 @@ module _ (script : ScriptContents) where
 
 -- ---- a whole report
 
-pub audit_says : (script trace : List ℕ) (contents : ScriptContents) (rows : List Row) (decisions : List Decision)
-    (before after text : List ℕ) (faults : ℕ) (summary : Summary) → script_meaning script ≡ Ok contents
-    → trace_meaning (moments_in contents) trace ≡ Ok (map row_fields rows) → AreDecided contents rows decisions
-    → after ≡ before ++ report_text_from 1 rows decisions → before ≡ [] → text ≡ after
-    → faults ≡ refused_count decisions
+pub report_says : (rows : List Row) (decisions : List Decision) (before after text : List ℕ) (faults : ℕ)
+    (summary : Summary) → length decisions ≡ length rows → after ≡ before ++ report_text_from 1 rows decisions
+    → before ≡ [] → text ≡ after → faults ≡ refused_count decisions
     → summary ≡ record { rows = length rows; faults = faults; bare = first_bare 1 rows }
-    → AuditSays script trace summary text
+    → ReportSays rows decisions summary text
 unfolding report_text report_text_from
-audit_says script trace contents rows decisions before after text faults summary script_means trace_means decided
-    listed empty same counted is =
-    let one_each = AllZip-long (Decides contents) rows decisions decided in
-    record {
-      contents = contents;
-      script_means = script_means;
-      report = record {
-        rows = rows;
-        decisions = decisions;
-        trace_means = trace_means;
-        decided = decided;
-        report = same ∙ listed ∙ ap (λ front. front ++ report_text rows decisions) empty;
-      };
-      counted = is ∙ (λ i. record { rows = sym one_each i; faults = counted i; bare = first_bare 1 rows });
-    }
+report_says rows decisions before after text faults summary one_each listed empty same counted is = record {
+  report = same ∙ listed ∙ ap (λ front. front ++ report_text rows decisions) empty;
+  counted = is ∙ (λ i. record { rows = sym one_each i; faults = counted i; bare = first_bare 1 rows });
+}
+
+pub audit_says : (script trace : List ℕ) (contents : ScriptContents) (rows : List Row) (decisions : List Decision)
+    → script_meaning script ≡ Ok contents → trace_meaning (moments_in contents) trace ≡ Ok (map row_fields rows)
+    → AreDecided contents rows decisions → (summary : Summary) (text : List ℕ)
+    → ReportSays rows decisions summary text → AuditSays script trace summary text
+audit_says script trace contents rows decisions script_means trace_means decided summary text said = record {
+  contents = contents;
+  script_means = script_means;
+  report = record {
+    rows = rows;
+    decisions = decisions;
+    trace_means = trace_means;
+    decided = decided;
+    report = said.report;
+  };
+  counted = said.counted;
+}

@@ -6,7 +6,7 @@ use Rattle.pmp_text.specs.declared.trace.TraceFault.{TraceFault}
 use Rattle.pmp_text.specs.Contents.{ScriptContents}
 use Rattle.pmp_text.specs.Moments.{moments_in}
 use Rattle.pmp_text.specs.Outcomes.{no_input_for_rows}
-use Rattle.pmp_text.specs.Reports.{IsReport}
+use Rattle.pmp_text.specs.Reports.{IsReport, report_text}
 use Rattle.pmp_text.specs.Scripts.{script_meaning}
 use Rattle.pmp_text.specs.Traces.{first_bare, trace_meaning}
 use Rattle.pmp_audit.specs.declared.fault.AuditFault.{AuditFault}
@@ -21,6 +21,11 @@ summary_of first rows decisions = record {
   faults = count_by (λ decision. not decision.allowed) decisions;
   bare = first_bare first rows;
 }
+
+-- the text is the report of rows that are decided so, and the decisions are counted
+pub record ReportSays (rows : List Row) (decisions : List Decision) (summary : Summary) (text : List ℕ) : Type 0 where
+  pub report : text ≡ report_text rows decisions
+  pub counted : summary ≡ summary_of 1 rows decisions
 
 -- the script means this, the text is its report with the trace, and the report's decisions are counted
 pub record AuditSays (script trace : List ℕ) (summary : Summary) (text : List ℕ) : Type 0 where

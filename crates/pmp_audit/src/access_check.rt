@@ -6,11 +6,10 @@ ghost use Rattle.pmp_audit.specs.Answers.{Declines, IsAppended, IsWritten, IsRef
 ghost use Rattle.pmp_audit.specs.AskedFile.{FileRefuses};
 
 use crate::answer::write_answer;
-use crate::asked_count::asked_count;
 use crate::fault::AuditFault;
-use crate::replay::Replay;
+use crate::replay::file_after;
 use pmp_core::{Access, Decision};
-use pmp_text::{EventLog, GrowingLog, Sink, When, read_script, write_row};
+use pmp_text::{EventLog, GrowingLog, Sink, When, write_row};
 use std::alloc::Global;
 use std::io::Write;
 
@@ -51,9 +50,8 @@ pub fn append_check<L: EventLog, S: Sink>(
     ensures err { IfErr result (Declines (FileRefuses script.now after)) }
     ensures kept { OnErr result (S.text out.new ≡ S.text out.old) }
 {
-    let script = read_script(log, script)?;
-    let count = asked_count(&script, after)?;
-    let decision = Replay::after(&script, count).decide(access);
+    let file = file_after(log, script, after)?;
+    let decision = file.decide(access);
     write_row(out, 1, access, &decision)?;
     Ok(decision)
 }

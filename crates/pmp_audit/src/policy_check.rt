@@ -1,9 +1,10 @@
 //! The rows of a policy, each judged in all states that it asks about.
 
 ghost use Rattle.std.specs.Prelude.{◌≡◌, ◌+◌, ◌^◌, ◌<◌, ◌≤◌, ◌++◌, All, IfOk, IfErr, OnErr, OnOk, length, map};
-ghost use Rattle.std.specs.Prelude.{None, Some, if◌then◌else◌, slice_get};
+ghost use Rattle.std.specs.Prelude.{ℕ, [], List, None, Ok, Some, if◌then◌else◌, slice_get};
 ghost use Rattle.std.specs.Option.{option_or};
 ghost use Rattle.pmp_text.specs.Labels.{label_text};
+ghost use Rattle.pmp_text.specs.Scripts.{script_meaning};
 ghost use Rattle.pmp_text.specs.Verdicts.{is_breach, verdict_row};
 ghost use Rattle.pmp_audit.specs.Answers.{Declines, IsAppended, IsWritten, IsRefused};
 ghost use Rattle.pmp_audit.specs.Fault.{fault_of_policy};
@@ -19,10 +20,10 @@ use crate::answer::write_answer;
 use crate::fault::AuditFault;
 use crate::moments::moments_of;
 use crate::policy_check::steps::Steps;
-use crate::policy_check::sweep::{Judged, judge, unjudged};
+use crate::policy_check::sweep::{Judged, judge, judge_rows};
 use pmp_text::{
-    EventLog, GrowingLog, Label, PolicyFields, PolicyRow, Sink, Verdict, read_policy, read_script,
-    write_verdict,
+    EventLog, GrowingLog, Label, PolicyFields, PolicyRow, Script, Sink, Verdict, read_policy,
+    read_script, write_verdict,
 };
 use std::alloc::{AllocError, Global};
 use std::io::Write;
@@ -60,19 +61,47 @@ pub fn check_policy<W: Write>(
         (PolicyRefuses script.now policy.now)) }
 {
     let mut log = GrowingLog::new(alloc);
-    let read = read_script(&mut log, script)?;
-    let policy = match read_policy(alloc, policy, &moments_of(&read)) {
+    let script = read_script(&mut log, script)?;
+    check_rows(alloc, pace, &script, policy, writer)
+}
+
+/// Judges the rows of the policy, whatever text the script was read from.
+fn check_rows<W: Write>(
+    alloc: Global,
+    pace: Pace,
+    script: &Script,
+    policy: &[u8],
+    writer: &mut W,
+) -> Result<PolicySummary, AuditFault>
+    ensures ok { (text : List ℕ) → script_meaning text ≡ Ok script.now → IfOk result
+        (IsWritten (PolicySays pace text policy.now) (W.contents writer.old) (W.contents writer.new)) }
+    ensures err { (text : List ℕ) → script_meaning text ≡ Ok script.now → IfErr result
+        (IsRefused (PolicySays pace text policy.now) (W.contents writer.old) (W.contents writer.new)
+        (PolicyRefuses text policy.now)) }
+{
+    let policy = match read_policy(alloc, policy, &moments_of(script)) {
         Ok(policy) => policy,
         Err(fault) => return Err(AuditFault::of_policy(fault)),
     };
-    let steps = Steps {
-        script: &read,
-        pace,
-    };
-    let mut judged = unjudged(alloc, &steps, &policy.rows)?;
-    judge(&steps, &mut judged);
+    let steps = Steps { script, pace };
+    let judged = judge_rows(alloc, &steps, &policy.rows)?;
+    write_judged(alloc, &judged, &policy.labels, writer)
+}
+
+/// Writes the verdicts on the rows, with the labels of those that have one.
+fn write_judged<W: Write>(
+    alloc: Global,
+    judged: &[Judged],
+    labels: &[Label],
+    writer: &mut W,
+) -> Result<PolicySummary, AuditFault>
+    ensures ok { IfOk result (IsWritten (λ summary text. AreWritten judged.now (map label_text labels.now) [] text
+        summary) (W.contents writer.old) (W.contents writer.new)) }
+    ensures err { IfErr result (IsRefused (λ summary text. AreWritten judged.now (map label_text labels.now) [] text
+        summary) (W.contents writer.old) (W.contents writer.new) (λ _. ⊥)) }
+{
     let mut text = Vec::new(alloc);
-    let summary = write_verdicts(&mut text, &judged, &policy.labels)?;
+    let summary = write_verdicts(&mut text, judged, labels)?;
     write_answer(writer, &text, Ok(summary))
 }
 

@@ -1,9 +1,9 @@
 //! Why an access is decided as it is after some of a script's publications, and the findings in a script.
 
-ghost use Rattle.std.specs.Prelude.{◌≡◌, ◌++◌, IfErr, IfOk, OnErr, OnOk};
+ghost use Rattle.std.specs.Prelude.{◌≡◌, ◌≤◌, ◌++◌, IfErr, IfOk, OnErr, OnOk, length};
 ghost use Rattle.pmp_audit.specs.Answers.{Declines, IsAppended, IsRefused, IsWritten};
 ghost use Rattle.pmp_audit.specs.AskedFile.{FileRefuses};
-ghost use Rattle.pmp_audit.specs.Reasons.{FindingsSay, ReasonsSay, reasons_text};
+ghost use Rattle.pmp_audit.specs.Reasons.{FindingsSay, IsReasonText, ReasonsSay, reasons_text};
 ghost use Rattle.pmp_audit.specs.WriteList.{WritesRefuse};
 
 use crate::answer::write_answer;
@@ -13,7 +13,7 @@ use pmp_core::{Access, Decision};
 use pmp_lint::{
     Accepted, AnswerRun, Because, append_history, append_lint, append_why, history, why,
 };
-use pmp_text::{EventLog, GrowingLog, NoMemory, Sink, When, read_script};
+use pmp_text::{EventLog, GrowingLog, NoMemory, Script, Sink, When, read_script};
 use std::alloc::Global;
 use std::io::Write;
 
@@ -57,8 +57,24 @@ pub fn append_reasons<L: EventLog, S: Sink>(
 {
     let script = read_script(log, script)?;
     let done = asked_count(&script, after)?;
-    let reason = why(&script, done, access);
-    let runs = history(alloc, &script, access)?;
+    Ok(append_reason(alloc, &script, done, access, out)?)
+}
+
+/// Decides the access once so many publications are done, and appends why it is decided so.
+fn append_reason<S: Sink>(
+    alloc: Global,
+    script: &Script,
+    done: u64,
+    access: &Access,
+    out: &mut S,
+) -> Result<Decision, NoMemory>
+    requires { done ≤ length script.now.batches }
+    ensures ok { IfOk result (IsAppended (λ decision text. IsReasonText access.now decision script.now done text)
+        (S.text out.old) (S.text out.new)) }
+    ensures kept { OnErr result (S.text out.new ≡ S.text out.old) }
+{
+    let reason = why(script, done, access);
+    let runs = history(alloc, script, access)?;
     write_reasons(out, access, &reason, &runs)?;
     Ok(reason.decision)
 }

@@ -1,12 +1,17 @@
 //! The register file as a script's publications are executed.
 
-ghost use Rattle.std.specs.Prelude.{◌≡◌, ◌≤◌, length};
+ghost use Rattle.std.specs.Prelude.{◌≡◌, ◌≤◌, IfErr, IfOk, length};
 ghost use Rattle.pmp_core.specs.Decision.{IsDecision};
+ghost use Rattle.pmp_text.specs.Reports.{file_of_script};
 ghost use Rattle.pmp_audit.specs.Replay.{file_at};
+ghost use Rattle.pmp_audit.specs.ScriptDiff.{GivesFile};
+ghost use Rattle.pmp_audit.specs.Sides.{FailsFile};
 
+use crate::asked_count::asked_count;
+use crate::fault::AuditFault;
 use pmp_core::{Access, Decision, RegFile};
 use pmp_map::RunMap;
-use pmp_text::Script;
+use pmp_text::{EventLog, Script, When, read_script};
 use std::marker::Model;
 
 /// A script whose first publications are executed. A contract sees the script, and the number of these publications.
@@ -104,4 +109,26 @@ impl<'a> Replay<'a> {
         self.map = Some(map);
         decision
     }
+}
+
+/// The register file after the first `count` publications.
+pub fn file_of(script: &Script, count: u64) -> RegFile
+    requires { count ≤ length script.now.batches }
+    ensures { result ≡ file_of_script script.now count }
+{
+    *Replay::after(script, count).file()
+}
+
+/// The register file after the publications of the script that are done then, or after all of them where that is none.
+pub fn file_after<L: EventLog>(
+    log: &mut L,
+    script: &[u8],
+    after: Option<When>,
+) -> Result<RegFile, AuditFault>
+    ensures ok { IfOk result (λ file. GivesFile script.now after file) }
+    ensures err { IfErr result (FailsFile script.now after) }
+{
+    let script = read_script(log, script)?;
+    let count = asked_count(&script, after)?;
+    Ok(file_of(&script, count))
 }

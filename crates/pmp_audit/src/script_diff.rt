@@ -5,15 +5,15 @@ ghost use Rattle.pmp_audit.specs.Answers.{Declines, IsAppended, IsWritten, IsRef
 ghost use Rattle.pmp_audit.specs.Growing.{HasGrown};
 ghost use Rattle.pmp_core.specs.declared.access.TheConstants.{ADDRESS_LIMIT};
 ghost use Rattle.pmp_audit.specs.ScriptDiff.{ChangesSay, DiffRefuses, DiffSays, FilesSay, GivesFile, LocksSay};
-ghost use Rattle.pmp_audit.specs.Sides.{FailsFile};
+ghost use Rattle.pmp_audit.specs.Sides.{FailsFile, fault_on};
+ghost use Rattle.pmp_audit.specs.declared.fault.AuditFault.{AuditFault};
 
 use crate::answer::write_answer;
-use crate::asked_count::asked_count;
 use crate::fault::{AuditFault, Side};
-use crate::replay::Replay;
+use crate::replay::file_after;
 use pmp_core::{ADDRESS_LIMIT, RegFile, Registers};
 use pmp_map::{Aspect, compared_run_from};
-use pmp_text::{EventLog, GrowingLog, Only, Sink, When, read_script, write_change};
+use pmp_text::{EventLog, GrowingLog, Only, Sink, When, write_change};
 use std::alloc::{AllocError, Global};
 use std::io::Write;
 
@@ -73,14 +73,27 @@ pub fn append_diff<L: EventLog, S: Sink>(
     ensures err { IfErr result (Declines (DiffRefuses old.now old_after new.now new_after)) }
     ensures kept { OnErr result (S.text out.new ≡ S.text out.old) }
 {
-    let old_file = file_after(log, old, old_after).map_err(|fault| fault.on_side(Side::Old))?;
-    let new_file = file_after(log, new, new_after).map_err(|fault| fault.on_side(Side::New))?;
+    let old_file = file_on(Side::Old, log, old, old_after)?;
+    let new_file = file_on(Side::New, log, new, new_after)?;
+    Ok(append_rows(out, &old_file, &new_file, asked)?)
+}
+
+/// Appends the rows that are asked for, all or none, and answers how many these are.
+fn append_rows<S: Sink>(
+    out: &mut S,
+    old: &RegFile,
+    new: &RegFile,
+    asked: AskedChanges,
+) -> Result<u64, AllocError>
+    ensures ok { IfOk result (IsAppended (FilesSay old.now new.now asked) (S.text out.old) (S.text out.new)) }
+    ensures kept { OnErr result (S.text out.new ≡ S.text out.old) }
+{
     let before = out.position();
-    let rows = write_rows(out, &old_file.registers(), &new_file.registers(), asked);
+    let rows = write_rows(out, &old.registers(), &new.registers(), asked);
     if rows.is_err() {
         out.go_back(before);
     }
-    Ok(rows?)
+    rows
 }
 
 /// Appends the wanted rows, and returns their number.
@@ -144,16 +157,16 @@ fn write_differences<S: Sink>(
     Ok(rows)
 }
 
-/// Returns the register file after the script's publications done then, or after all of them if that is none.
-fn file_after<L: EventLog>(
+/// Returns the register file of the script on this side, or why it has none.
+fn file_on<L: EventLog>(
+    side: Side,
     log: &mut L,
     script: &[u8],
     after: Option<When>,
 ) -> Result<RegFile, AuditFault>
     ensures ok { IfOk result (λ file. GivesFile script.now after file) }
-    ensures err { IfErr result (FailsFile script.now after) }
+    ensures err { IfErr result (λ fault.
+        (why : AuditFault) × (fault ≡ fault_on side why) × FailsFile script.now after why) }
 {
-    let script = read_script(log, script)?;
-    let count = asked_count(&script, after)?;
-    Ok(*Replay::after(&script, count).file())
+    file_after(log, script, after).map_err(|fault| fault.on_side(side))
 }

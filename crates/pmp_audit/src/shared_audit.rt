@@ -1,10 +1,12 @@
 //! The accesses of a trace, decided by several threads that share one unit.
 
-ghost use Rattle.std.specs.Prelude.{◌≤◌, IfOk, IfErr};
+ghost use Rattle.std.specs.Prelude.{◌≡◌, ◌≤◌, ℕ, IfOk, IfErr, List, Ok, length};
 ghost use Rattle.pmp_share.specs.declared.opening.TheConstants.{CHECKERS};
+ghost use Rattle.pmp_text.specs.Scripts.{script_meaning};
+ghost use Rattle.pmp_text.specs.Sizes.{IsInLimits};
 ghost use Rattle.pmp_audit.specs.Answers.{IsWritten, IsRefused};
 ghost use Rattle.pmp_audit.specs.SharedAudit.{SharedAuditRefuses};
-ghost use Rattle.pmp_audit.specs.TraceAudit.{AuditSays};
+ghost use Rattle.pmp_audit.specs.TraceAudit.{AuditSays, ReportSays};
 
 mod asking;
 mod deciding;
@@ -20,9 +22,10 @@ use crate::gate::Gate;
 use crate::report::list_decisions;
 use crate::trace_audit::Summary;
 use deciding::decide_shared;
+use pmp_core::Decision;
 use pmp_core::laws::law_decided_by_ranges;
 use pmp_text::laws::{law_legal_start, law_script_size};
-use pmp_text::{GrowingLog, read_script, read_trace};
+use pmp_text::{GrowingLog, Row, Script, read_script, read_trace};
 use std::alloc::Global;
 use std::io::Write;
 use std::sync::Wait;
@@ -56,12 +59,49 @@ pub fn audit_shared<R: Threads + Wait + Sync, G: Gate + Sync, W: Write>(
 {
     let mut log = GrowingLog::new(alloc);
     let script = read_script(&mut log, script)?;
-    let rows = read_trace(alloc, trace, &script.moments())?;
     law_script_size();
-    let decisions = decide_shared(rt, alloc, gate, k, &script, &rows)?;
+    audit_trace(rt, alloc, gate, k, &script, trace, writer)
+}
+
+/// Audits the trace, whatever text the script was read from.
+fn audit_trace<R: Threads + Wait + Sync, G: Gate + Sync, W: Write>(
+    rt: &R,
+    alloc: Global,
+    gate: &G,
+    k: u8,
+    script: &Script,
+    trace: &[u8],
+    writer: &mut W,
+) -> Result<Summary, AuditFault>
+    requires workers { (1 ≤ k) × (k ≤ CHECKERS) }
+    requires size { IsInLimits script.now.batches }
+    ensures ok { (text : List ℕ) → script_meaning text ≡ Ok script.now → IfOk result
+        (IsWritten (AuditSays text trace.now) (W.contents writer.old) (W.contents writer.new)) }
+    ensures err { (text : List ℕ) → script_meaning text ≡ Ok script.now → IfErr result
+        (IsRefused (AuditSays text trace.now) (W.contents writer.old) (W.contents writer.new)
+        (SharedAuditRefuses text trace.now)) }
+{
+    let rows = read_trace(alloc, trace, &script.moments())?;
+    let decisions = decide_shared(rt, alloc, gate, k, script, &rows)?;
     law_legal_start();
     law_decided_by_ranges();
+    write_report(alloc, &rows, &decisions, writer)
+}
+
+/// Writes the report of rows that are decided so.
+fn write_report<W: Write>(
+    alloc: Global,
+    rows: &[Row],
+    decisions: &[Decision],
+    writer: &mut W,
+) -> Result<Summary, AuditFault>
+    requires { length decisions.now ≡ length rows.now }
+    ensures ok { IfOk result
+        (IsWritten (ReportSays rows.now decisions.now) (W.contents writer.old) (W.contents writer.new)) }
+    ensures err { IfErr result
+        (IsRefused (ReportSays rows.now decisions.now) (W.contents writer.old) (W.contents writer.new) (λ _. ⊥)) }
+{
     let mut report = Vec::new(alloc);
-    let faults = list_decisions(&mut report, &rows, &decisions)?;
-    write_answer(writer, &report, Ok(Summary::of(&rows, faults)))
+    let faults = list_decisions(&mut report, rows, decisions)?;
+    write_answer(writer, &report, Ok(Summary::of(rows, faults)))
 }

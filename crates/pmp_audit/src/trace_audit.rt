@@ -1,6 +1,7 @@
 //! The accesses of a trace, each decided after the publications that it asks for.
 
-ghost use Rattle.std.specs.Prelude.{◌≡◌, ◌<◌, IfErr, IfOk, IfSome, length};
+ghost use Rattle.std.specs.Prelude.{◌≡◌, ◌<◌, ℕ, IfErr, IfOk, IfSome, List, Ok, length};
+ghost use Rattle.pmp_text.specs.Scripts.{script_meaning};
 ghost use Rattle.pmp_text.specs.Traces.{first_bare};
 ghost use Rattle.pmp_audit.specs.Answers.{IsWritten, IsRefused};
 ghost use Rattle.pmp_audit.specs.TraceAudit.{AuditSays, AuditRefuses};
@@ -9,7 +10,7 @@ use crate::answer::write_texts;
 use crate::fault::AuditFault;
 use crate::piece::report_piece;
 use crate::standing::Standing;
-use pmp_text::{GrowingLog, MAX_TRACE, Refusal, Row, read_script};
+use pmp_text::{GrowingLog, MAX_TRACE, Refusal, Row, Script, read_script};
 use std::alloc::Global;
 use std::io::Write;
 
@@ -72,10 +73,26 @@ pub fn audit<W: Write>(
 {
     let mut log = GrowingLog::new(alloc);
     let script = read_script(&mut log, script)?;
+    audit_trace(alloc, &script, trace, writer)
+}
+
+/// Audits the trace, whatever text the script was read from.
+fn audit_trace<W: Write>(
+    alloc: Global,
+    script: &Script,
+    trace: &[u8],
+    writer: &mut W,
+) -> Result<Summary, AuditFault>
+    ensures ok { (text : List ℕ) → script_meaning text ≡ Ok script.now → IfOk result
+        (IsWritten (AuditSays text trace.now) (W.contents writer.old) (W.contents writer.new)) }
+    ensures err { (text : List ℕ) → script_meaning text ≡ Ok script.now → IfErr result
+        (IsRefused (AuditSays text trace.now) (W.contents writer.old) (W.contents writer.new)
+        (AuditRefuses text trace.now)) }
+{
     if trace.len() > MAX_TRACE {
         return Err(AuditFault::from(Refusal::TooLong.whole().at_row(0)));
     }
-    let report = report_piece(alloc, &script, trace, Standing::beginning(1))?;
+    let report = report_piece(alloc, script, trace, Standing::beginning(1))?;
     let summary = report.behind.end(1)?;
     write_texts(writer, &report.texts)?;
     Ok(summary)

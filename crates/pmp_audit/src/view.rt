@@ -10,7 +10,7 @@ ghost use Rattle.pmp_audit.specs.declared.view.View.TheVariants.{Registers, Runs
 use crate::answer::write_answer;
 use crate::asked_count::asked_count;
 use crate::fault::AuditFault;
-use crate::replay::Replay;
+use crate::replay::file_of;
 use crate::since::since_of;
 use pmp_map::RunMap;
 use pmp_text::laws::law_legal_start;
@@ -123,15 +123,15 @@ fn write_view<S: Sink>(
     ensures err { OnErr result (S.text out.new ≡ S.text out.old) }
 {
     match view {
-        View::Registers => write_registers(out, Replay::after(script, done).file()),
-        View::Script => write_script(out, Replay::after(script, done).file()),
+        View::Registers => write_registers(out, &file_of(script, done)),
+        View::Script => write_script(out, &file_of(script, done)),
         View::Runs => {
-            let replay = Replay::after(script, done);
-            write_runs(out, replay.file(), &RunMap::build(replay.file()))
+            let file = file_of(script, done);
+            write_runs(out, &file, &RunMap::build(&file))
         }
         View::Picture => {
-            let replay = Replay::after(script, done);
-            write_picture(out, replay.file(), &RunMap::build(replay.file()), done)
+            let file = file_of(script, done);
+            write_picture(out, &file, &RunMap::build(&file), done)
         }
         View::Entries => {
             let (replay, since) = since_of(script, done);

@@ -125,11 +125,7 @@ fn ask_all(rows: &mut [Judged], state: &State)
 }
 
 /// Returns the rows before the first state.
-pub fn unjudged(
-    alloc: Global,
-    steps: &Steps<'_>,
-    rows: &[PolicyRow],
-) -> Result<Vec<Judged>, AllocError>
+fn unjudged(alloc: Global, steps: &Steps<'_>, rows: &[PolicyRow]) -> Result<Vec<Judged>, AllocError>
     requires { All (λ row. row.to ≤ length steps.now.script.now.batches) rows.now }
     ensures judged { IfOk result (λ all. All (IsJudged steps.now.pace steps.now.script.now 0) all.items) }
     ensures rows { IfOk result (λ all. rows_of all.items ≡ rows.now) }
@@ -155,4 +151,20 @@ pub fn judge(steps: &Steps<'_>, rows: &mut [Judged])
         steps.advance(&mut state);
         ask_all(rows, &state);
     }
+}
+
+/// The rows, judged in all states that they ask of.
+pub fn judge_rows(
+    alloc: Global,
+    steps: &Steps<'_>,
+    rows: &[PolicyRow],
+) -> Result<Vec<Judged>, AllocError>
+    requires { All (λ row. row.to ≤ length steps.now.script.now.batches) rows.now }
+    ensures judged { IfOk result (λ all.
+        All (λ one. IsVerdict steps.now.pace steps.now.script.now one.row (told_of one)) all.items) }
+    ensures rows { IfOk result (λ all. rows_of all.items ≡ rows.now) }
+{
+    let mut all = unjudged(alloc, steps, rows)?;
+    judge(steps, &mut all);
+    Ok(all)
 }

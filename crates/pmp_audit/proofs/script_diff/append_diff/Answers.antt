@@ -8,8 +8,8 @@ returns-in_err-old_file-clause-ok g c = IfOk-from_err _ _ c.from_residual.ensure
 pub returns-in_err-new_file-clause-ok : goal.returns-in_err-new_file-clause-ok
 returns-in_err-new_file-clause-ok g c = IfOk-from_err _ _ c.from_residual-in_err-new_file.ensures.0
 
-pub returns-in_err-rows-clause-ok : goal.returns-in_err-rows-clause-ok
-returns-in_err-rows-clause-ok g c = IfOk-from_err _ _ c.from_residual-in_err-rows.ensures.0
+pub returns-in_err-append_rows-clause-ok : goal.returns-in_err-append_rows-clause-ok
+returns-in_err-append_rows-clause-ok g c = IfOk-from_err _ _ c.from_residual-in_err-append_rows.ensures.0
 
 pub returns-clause-ok : goal.returns-clause-ok
 returns-clause-ok g c = search rules
