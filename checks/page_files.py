@@ -8,6 +8,7 @@ import subprocess
 
 ROWS = pathlib.Path(__file__).parent / "rows/import.txt"
 SCRIPT = "pmp 1\nwrite pmpaddr0 0x200001ff\nwrite pmpcfg0 0x99\npublish\n"
+ROWS_OF_HARTS = "[...byId('harts').tBodies[0].rows].map((row) => [...row.cells].map((cell) => cell.textContent))"
 FORMATS = ("qemu", "gdb", "openocd", "spike", "dump")
 DROPPED = {
     "qemu": "riscv_trap hart:0\npmpcfg_csr_write hart 0: write reg0, val: 0x18\n",
@@ -29,17 +30,17 @@ def logs():
     return steps("script|input") + [it.partition("|")[0].replace("\\n", "\n") for it in tables]
 
 
-def drop(tab, file):
-    """Drops a file on the page, and waits for what it does."""
+def drop(tab, *files):
+    """Drops files on the page, and waits for what it does."""
     for kind in ("dragEnter", "dragOver", "drop"):
         tab.send("Input.dispatchDragEvent", type=kind, x=200, y=400,
-                 data={"items": [], "files": [str(file)], "dragOperationsMask": 1})
+                 data={"items": [], "files": [str(it) for it in files], "dragOperationsMask": 1})
     tab.ask("page.opened")
 
 
-def choose(tab, file):
+def choose(tab, *files):
     node = tab.send("Runtime.evaluate", expression="byId('file')")["result"]["objectId"]
-    tab.send("DOM.setFileInputFiles", files=[str(file)], objectId=node)
+    tab.send("DOM.setFileInputFiles", files=[str(it) for it in files], objectId=node)
     tab.ask("page.opened")
 
 
@@ -52,6 +53,7 @@ class Files:
         self.compare_logs(tab)
         self.compare_dropped(tab)
         self.compare_scripts(tab)
+        self.compare_harts(tab)
         self.compare_picture(browser, tab)
 
     def answer(self, log, form):
@@ -101,6 +103,39 @@ class Files:
             give(tab, file)
             self.tally.compare(f"a file that is {how}", tab.ask("page.editor.text"), SCRIPT)
             self.tally.compare(f"a file that is {how}: notice", tab.ask("noticeShown()"), "")
+
+    def compare_harts(self, tab):
+        """Several files are harts: the page lists them as `pmp harts` orders them, and says of each what `pmp diff` does.
+        A button shows a hart's script, with that of the first as the old one."""
+        folder = pathlib.Path(self.work, "harts")
+        folder.mkdir()
+        other, refused = SCRIPT.replace("0x99", "0x9b"), SCRIPT.replace("write", "wrote", 1)
+        texts = {"hart0": SCRIPT, "hart2": other, "hart10": SCRIPT, "hart10a": refused}
+        for name, text in texts.items():
+            folder.joinpath(f"{name}.pmp").write_text(text, encoding="utf-8")
+        rows = [[name, self.difference(folder, name) if name != "hart0" else ""] for name in texts]
+        self.tally.has("harts that differ, are alike and are refused", len({row[1] for row in rows}) == 4)
+        for how, give in (("chosen", choose), ("dropped", drop)):
+            give(tab, *(folder / f"{name}.pmp" for name in reversed(texts)))
+            self.tally.compare(f"harts that are {how}: the list", tab.ask(ROWS_OF_HARTS), rows)
+            self.tally.compare(f"harts that are {how}: the first", tab.ask("page.editor.text"), SCRIPT)
+        tab.ask("byId('harts').tBodies[0].rows[1].querySelector('button').click()")
+        self.tally.compare("a hart that is asked for", tab.ask("[page.editor.text, byId('old-script').value]"),
+                           [other, SCRIPT])
+        give(tab, folder / "hart0.pmp")
+        self.tally.compare("one file has no list of harts", tab.ask("byId('harts-part').hidden"), True)
+
+    def difference(self, folder, name):
+        """What the list says of a hart."""
+        words = [self.program, "diff", folder / "hart0.pmp", folder / f"{name}.pmp"]
+        done = subprocess.run(words, capture_output=True, check=False, text=True)
+        at_fault = re.match(r"pmp: new script line (\d+): refused (\d+) (\w+)", done.stderr)
+        if at_fault:
+            return "New script, line {}: refused {} {}".format(*at_fault.groups())
+        count = len(done.stdout.splitlines())
+        if count == 0:
+            return "the same rights"
+        return f"{count} range{'' if count == 1 else 's'} with other rights"
 
     def compare_picture(self, browser, tab):
         """What is saved of the script that is shown."""

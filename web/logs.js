@@ -11,10 +11,11 @@ async function readScript(unit, file) {
     const bytes = new Uint8Array(await file.arrayBuffer());
     const text = decodeText(bytes);
     const log = significantLines(bytes)[0]?.[0] === 'pmp' ? null : importLog(unit, bytes);
-    if (log === null) return {text, told: ''};
+    const name = file.name.replace(/\.pmp$/, '');
+    if (log === null) return {name, text, told: ''};
     if (log.status === 0) {
-        return {text: log.text, told: `This is the script of ${file.name}, as “pmp import ${log.format}” writes it.`};
+        return {name, text: log.text, told: `This is the script of ${file.name}, as “pmp import ${log.format}” writes it.`};
     }
     const refused = `${sayRefusal(log, 'line')}. ${sayAdvice(log)}`;
-    return {text, told: `${file.name} is no script, and as a log for “pmp import ${log.format}”: ${refused}`};
+    return {name, text, told: `${file.name} is no script, and as a log for “pmp import ${log.format}”: ${refused}`};
 }

@@ -40,6 +40,7 @@ class Page {
         this.demands = new Demands(unit, data.policies, (moment) => this.goToMoment(moment), changed);
         const kept = () => (this.name === '' ? {text: this.editor.text} : {name: this.name});
         this.differences = new Differences(unit, data.boots, kept, changed);
+        this.harts = new Harts(unit, (text, first) => this.openHart(text, first));
         offerNames(byId('boot'), data.boots);
         this.listen();
     }
@@ -47,7 +48,7 @@ class Page {
     listen() {
         byId('boot').addEventListener('change', (event) => this.openBoot(event.target.value));
         byId('file').addEventListener('change', (event) => {
-            this.opened = this.openFile(event.target.files[0]);
+            this.opened = this.openFiles([...event.target.files]);
             event.target.value = '';
         });
         byId('script').addEventListener('input', () => this.edited());
@@ -77,7 +78,7 @@ class Page {
         addEventListener('drop', (event) => {
             if (event.dataTransfer.files.length === 0) return;
             event.preventDefault();
-            this.opened = this.openFile(event.dataTransfer.files[0]);
+            this.opened = this.openFiles([...event.dataTransfer.files]);
         });
         addEventListener('hashchange', () => {
             this.opened = this.openAddress();
@@ -115,19 +116,29 @@ class Page {
         this.noteAddress();
     }
 
-    async openFile(file) {
-        if (!file) return;
-        if (file.size > data.limits.MAX_SCRIPT) {
+    // One file is a script or a log; several are those of harts, of which the first is shown.
+    async openFiles(files) {
+        if (files.length === 0) return;
+        const long = files.find((file) => file.size > data.limits.MAX_SCRIPT);
+        if (long) {
             const fault = {status: TOO_LONG, line: 0};
-            tell(`${file.name}: ${sayRefusal(fault)}. ${sayAdvice(fault)}`);
+            tell(`${long.name}: ${sayRefusal(fault)}. ${sayAdvice(fault)}`);
             return;
         }
-        const {text, told} = await readScript(this.unit, file);
+        const scripts = await Promise.all(files.map((file) => readScript(this.unit, file)));
+        this.harts.put(scripts);
+        const {text, told} = scripts.length > 1 ? this.harts.scripts[0] : scripts[0];
         this.open('', text);
         if (told !== '') tell(told);
         if (/\r(?!\n)/.test(text)) tell('The editor has no lone CR: each is a line’s end here.');
         if (text.includes('\ufffd')) tell('Bytes that are no UTF-8 are U+FFFD here.');
         this.noteAddress();
+    }
+
+    // A hart's script, as the new one beside that of the first hart.
+    openHart(text, first) {
+        this.open('', text);
+        this.differences.put({text: first});
     }
 
     // Shows the script, at the moment that is wanted, or after all its publications.
