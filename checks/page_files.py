@@ -129,9 +129,9 @@ class Files:
         """What the list says of a hart."""
         words = [self.program, "diff", folder / "hart0.pmp", folder / f"{name}.pmp"]
         done = subprocess.run(words, capture_output=True, check=False, text=True)
-        at_fault = re.match(r"pmp: new script line (\d+): refused (\d+) (\w+)", done.stderr)
+        at_fault = re.match(r"pmp: new line (\d+: refused \d+ \w+)", done.stderr)
         if at_fault:
-            return "New script, line {}: refused {} {}".format(*at_fault.groups())
+            return f"Line {at_fault[1]}"
         count = len(done.stdout.splitlines())
         if count == 0:
             return "the same rights"

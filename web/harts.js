@@ -27,11 +27,10 @@ class Harts {
     // How a script differs from the first hart's, after all publications of both.
     compare(text) {
         const scripts = [this.scripts[0].text, text].map(encodeText);
-        const counts = scripts.map((script) => this.unit.publications(script));
-        const refused = counts.findIndex(({status}) => status !== 0);
-        if (refused >= 0) return saySideFault({...counts[refused], side: ['old', 'new'][refused]});
-        const [oldAfter, newAfter] = counts.map((count) => BigInt(count.text));
-        const answer = this.unit.diff(scripts[0], oldAfter, scripts[1], newAfter);
+        const [first, own] = scripts.map((script) => this.unit.publications(script));
+        if (own.status !== 0) return sayRefusal(own, 'Line');
+        if (first.status !== 0) return 'not compared: the first one is refused';
+        const answer = this.unit.diff(scripts[0], BigInt(first.text), scripts[1], BigInt(own.text));
         if (answer.status !== 0) return saySideFault(answer);
         const ranges = linesOf(answer.text, ',').length;
         return ranges === 0 ? 'the same rights' : `${counted(ranges, 'range')} with other rights`;
