@@ -63,10 +63,14 @@ class Page {
         byId('runs-part').addEventListener('toggle', () => this.isAnswered && this.showRuns());
         byId('registers-part').addEventListener('toggle', () => this.isAnswered && this.showRegisters());
         byId('all-entries').addEventListener('change', (event) => {
-            byId('entries').className = event.target.checked ? '' : 'some';
+            byId('entries').classList.toggle('some', !event.target.checked);
         });
         byId('runs-part').open = matchMedia('(max-width: 900px)').matches;
         byId('save').addEventListener('click', () => this.picture.save(`pmp-${this.moment.by}-${this.moment.at}.svg`));
+        byId('copy').addEventListener('click', () => this.copyReport());
+        addEventListener('beforeprint', () => {
+            byId('printed').textContent = this.editor.text;
+        });
         byId('fault-go').addEventListener('click', () => this.editor.goTo(this.boot.fault.line));
         byId('skip').addEventListener('click', (event) => {
             event.preventDefault();
@@ -290,9 +294,12 @@ class Page {
             row.className = classOfEntry(fields);
         });
         const frozen = lines.filter((fields) => fields[6] === 'frozen').length;
+        const bypassed = lines.filter((fields) => fields[6] === 'bypassed').length;
         const hold = lines.filter((fields) => fields[9] !== '').length;
         const verb = hold === 1 ? 'holds' : 'hold';
-        byId('entries-count').textContent = `${frozen} of ${lines.length} entries frozen; ${hold} ${verb}.`;
+        byId('entries-count').textContent = bypassed > 0
+            ? `${bypassed} of ${lines.length} entries locked, all bypassed: RLB is on.`
+            : `${frozen} of ${lines.length} entries frozen; ${hold} ${verb}.`;
     }
 
     showRegisters() {
@@ -327,6 +334,15 @@ class Page {
             return [name, when];
         });
         byId('reasons').replaceChildren(...items);
+    }
+
+    async copyReport() {
+        try {
+            await navigator.clipboard.writeText(reportOf(this));
+            tell('The report is on the clipboard.');
+        } catch {
+            tell('The browser doesn’t let this page write to the clipboard.');
+        }
     }
 
     // A browser takes few changes of the address in a second, so those that come soon after one another are one.

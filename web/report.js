@@ -1,0 +1,33 @@
+// The report: what the page shows at its moment, as Markdown, to paste into a review or an issue.
+
+function reportOf(page) {
+    const {by, at} = page.moment;
+    const parts = [
+        ['Memory map', 'runs', linesOf(page.ask('map').text, ',')],
+        ['Entries', 'entries', rowsSeen('entries')],
+        ['Policy', 'verdicts', rowsSeen('verdicts')],
+        ['Difference', 'differences', rowsSeen('differences')],
+        ['Writes that aren’t stored as written', 'writes', rowsSeen('writes')],
+    ].filter(([, , lines]) => lines.length > 0);
+    const tables = parts.map(([title, id, lines]) => `\n## ${title}\n\n${markdownTable(byId(id), lines)}`);
+    const access = ['mode', 'kind', 'start', 'length'].map((id) => byId(id).value).join(' ');
+    return `# ${markdownText(page.name || 'A script')} after ${by} ${at}\n\n`
+        + `${markdownText(byId('moment').textContent)}\n\n`
+        + `${markdownText(`${access}: ${byId('access-now').textContent}`)}\n${tables.join('')}`;
+}
+
+function rowsSeen(id) {
+    const rows = [...byId(id).tBodies[0].rows].filter((row) => row.checkVisibility());
+    return rows.map((row) => [...row.cells].map((cell) => cell.textContent));
+}
+
+function markdownTable(table, lines) {
+    const names = [...table.tHead.rows[0].cells].map((cell) => cell.textContent);
+    const rows = [names.map(markdownText), names.map(() => '---'), ...lines.map((fields) => fields.map(markdownText))];
+    return rows.map((fields) => `| ${fields.join(' | ')} |\n`).join('');
+}
+
+// A text whose signs Markdown doesn't read.
+function markdownText(text) {
+    return text.replace(/[\\`*_[\]<>|#]/g, '\\$&');
+}
