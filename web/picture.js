@@ -1,6 +1,6 @@
 // The picture, as the unit draws it. It stands in a tree of its own, since the selectors of its style are plain ones;
 // the style is taken out before it is parsed, and becomes a sheet, since the page's policy allows no style beside its
-// own. A sheet for the dark stands behind it.
+// own. A sheet for dark and for narrow screens follows it.
 
 class Picture {
     constructor(host, darkStyle) {
