@@ -1,7 +1,8 @@
 #!/bin/sh
 # check.sh SCRIPT POLICY BEFORE: ends with 0 where each row of the policy holds after each write of the script, and it
 # lets the modes do with each byte what the script BEFORE does, and locks it alike; with 1 where that isn't so; with 2
-# where there is no answer. It takes the pmp on the path, or the one that PMP names.
+# where there is no answer. It takes the pmp on the path, or the one that PMP names. In GitHub Actions each finding is
+# an annotation, of the policy's line or of the script.
 [ $# = 3 ] || { echo 'usage: check.sh SCRIPT POLICY BEFORE' >&2; exit 2; }
 pmp=${PMP:-pmp}
 work=$(mktemp -d) || exit 2
@@ -13,7 +14,9 @@ case $? in
     1)
         failed=1
         grep ',broken,' "$work/verdicts" | while IFS=, read -r row verdict event first last owner; do
-            echo "$1 breaks '$(sed -n "$((row + 1))p" "$2")': after event $event, $first-$last, entry $owner"
+            line=$((row + 1))
+            printf '%s' "${GITHUB_ACTIONS:+::error file=$2,line=$line::}"
+            echo "$1 breaks '$(sed -n "${line}p" "$2")': after event $event, $first-$last, entry $owner"
         done
         ;;
     *) echo "no answer for $1 and $2"; exit 2 ;;
@@ -22,7 +25,7 @@ esac
 "$pmp" diff --locks "$3" "$1"
 case $? in
     0) ;;
-    1) echo "$1 leaves other rights or locks than $3"; failed=1 ;;
+    1) echo "${GITHUB_ACTIONS:+::error file=$1::}$1 leaves other rights or locks than $3"; failed=1 ;;
     *) echo "no answer for $3"; exit 2 ;;
 esac
 exit $failed
