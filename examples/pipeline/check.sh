@@ -13,11 +13,17 @@ case $? in
     0) failed=0 ;;
     1)
         failed=1
-        grep ',broken,' "$work/verdicts" | while IFS=, read -r row verdict event first last owner; do
+        while IFS=, read -r row verdict event first last owner; do
             line=$((row + 1))
-            printf '%s' "${GITHUB_ACTIONS:+::error file=$2,line=$line::}"
-            echo "$1 breaks '$(sed -n "${line}p" "$2")': after event $event, $first-$last, entry $owner"
-        done
+            demand=$(sed -n "${line}p" "$2")
+            case $verdict,$demand in
+                broken,*) finding="breaks '$demand': after event $event, $first-$last, entry $owner" ;;
+                unmet,*if-any*) continue ;;
+                unmet,*) finding="never reaches the moments of '$demand'" ;;
+                *) continue ;;
+            esac
+            echo "${GITHUB_ACTIONS:+::error file=$2,line=$line::}$1 $finding"
+        done <"$work/verdicts"
         ;;
     *) echo "no answer for $1 and $2"; exit 2 ;;
 esac
