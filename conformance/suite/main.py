@@ -12,6 +12,8 @@ from .oracle import Oracle, dumps
 from .serial import Serial
 from .simulator import Board, Plain
 
+TOP = os.path.dirname(os.path.dirname(os.path.dirname(os.path.realpath(__file__))))
+
 BUILD = os.path.join(os.path.dirname(place.BOARDS), "build")
 
 
@@ -65,7 +67,8 @@ def tell(given, found, profile, oracle, simulator):
                "random cases": given.random, "hart": vars(profile.hart)}
     result = results.summary(found, profile, context)
     print(*results.text(result), sep="\n", flush=True)
-    for it in report.smallest_differences(found, profile, oracle, simulator, given.each, "./pmp"):
+    program = "./pmp" if os.path.exists(f"{TOP}/pmp") else "pmp"
+    for it in report.smallest_differences(found, profile, oracle, simulator, given.each, program):
         result["differences"].append(it)
         print(*results.text_of_difference(it), sep="\n", flush=True)
     if given.json:
