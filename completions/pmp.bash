@@ -20,7 +20,11 @@ _pmp() {
         harts) words='--explain --locks --names'; files=yes ;;
         import)
             words='--explain --hart --xlen --entries --grain --address-bits --smepmp --bursts --folder stdin'
-            if [ "$COMP_CWORD" = 2 ]; then words='qemu gdb openocd spike dump'; else files=yes; fi
+            case $COMP_CWORD,$word in
+                2,-*) ;;
+                2,*) words='qemu gdb openocd spike dump' ;;
+                *) files=yes ;;
+            esac
             ;;
         plan)
             words='--explain --xlen --entries --grain --address-bits --smepmp --mml --mmwp --rlb --c --of stdin'
