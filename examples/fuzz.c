@@ -1,13 +1,13 @@
-/* A harness for libFuzzer, which `make fuzz` runs. An input is a list of steps: a write to a register or to the unit's own
- * memory, and then an access that begins near an entry's address. A register reads what was written where the write says
- * so, and the map, which is built anew, decides as the registers do. */
+/* A libFuzzer harness, run by `make fuzz`. An input is a list of steps: a write to a register or to the unit's own
+ * memory, and then an access that begins near an entry's address. A register must read what was written if the write
+ * reports so, and the map, rebuilt each time, must decide as the registers do. */
 #include <stdlib.h>
 #include <string.h>
 #include <tilvenka_pmp.h>
 
 struct step {
     uint64_t value;
-    uint16_t place;  /* of a register, or of a byte */
+    uint16_t place;  /* index of a register or byte */
     uint8_t is_raw, mode, kind, entry;
     int16_t beside;
 };

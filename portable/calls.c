@@ -1,7 +1,7 @@
 /* ---- The calls of tilvenka_pmp.h, over the module above.
  *
- * The module's memory is the process's: an address there is a pointer less MEMORY, by which the module's one segment of
- * data lies in its place. Each call has a module and a stack of its own, so calls may run at once as the header says. */
+ * The module's memory is the process's: an address there is a pointer minus MEMORY, which puts the module's one data
+ * segment in its place. Each call has its own module and stack, so calls may run concurrently as the header says. */
 #if defined(__BYTE_ORDER__) && __BYTE_ORDER__ != __ORDER_LITTLE_ENDIAN__
 #error "tilvenka_pmp.c is for little-endian processors"
 #endif
@@ -13,7 +13,7 @@ struct call {
     w2c_pmp module;
     struct {
         uint64_t bytes[2];
-    } stack[1024]; /* 16 KiB, of which a build takes half */
+    } stack[1024]; /* 16 KiB; a build uses half of it */
 };
 
 static w2c_pmp *begin(struct call *call) {

@@ -1,6 +1,6 @@
-"""Makes a wheel of the package for pip, with nothing but the standard library, so that pip needs no network.
+"""Builds a wheel of the package for pip with only the standard library, so that pip needs no network.
 
-In an unpacked release, or where a release is installed, the shared library goes into the wheel beside the module."""
+In an unpacked or installed release, the shared library goes into the wheel beside the module."""
 from __future__ import annotations
 
 import base64
@@ -26,12 +26,12 @@ Description-Content-Type: text/plain
 {text}
 """
 WHEEL = "Wheel-Version: 1.0\nGenerator: tilvenka\nRoot-Is-Purelib: {pure}\nTag: {tag}\n"
-# glibc 2.14 is the newest that the library asks for, and manylinux2014 has 2.17.
+# glibc 2.14 is the newest that the library requires, and manylinux2014 has 2.17.
 PLATFORM = f"manylinux2014_{platform.machine()}"
 
 
 def values(name: str) -> list[str]:
-    """The values of this name in pyproject.toml."""
+    """Returns the values of this name in pyproject.toml."""
     project = (HERE / "pyproject.toml").read_text().partition("[project]")[2]
     found = re.search(rf"^{name} = (\[[^]]*\]|.*)$", project, re.M)
     assert found
@@ -43,7 +43,7 @@ def said(name: str) -> str:
 
 
 def metadata() -> str:
-    """What a list of packages shows: the project's file, and the package's own words."""
+    """Returns what a package index shows: the project's metadata, and the package's docstring."""
     return METADATA.format(
         version=said("version"),
         description=said("description"),
@@ -72,7 +72,7 @@ def files_of(version: str, pure: bool, tag: str) -> dict[str, bytes]:
 
 
 def build_wheel(wheel_directory: str, config_settings: object = None, metadata_directory: object = None) -> str:
-    """The hook by which pip asks for a wheel."""
+    """The hook that pip calls to build a wheel."""
     pure = not LIBRARY.is_file()
     tag = f"py3-none-{'any' if pure else PLATFORM}"
     name = f"tilvenka_pmp-{said('version')}-{tag}.whl"

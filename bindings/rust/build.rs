@@ -1,11 +1,11 @@
-//! Says where the library lies: in TILVENKA_PMP_LIB, or in this release, or where pkg-config says, or else where the
+//! Tells cargo where the library is: in TILVENKA_PMP_LIB, in this release, where pkg-config says, or else where the
 //! linker looks.
 
 use std::env;
 use std::path::PathBuf;
 use std::process::Command;
 
-/// Beside this crate, where it is one of a release that is unpacked or installed.
+/// The folder beside this crate, if it is part of an unpacked or installed release.
 fn in_release(file: &str) -> Option<PathBuf> {
     let folder = PathBuf::from(env::var_os("CARGO_MANIFEST_DIR")?).join("../../../lib");
     folder.join(file).is_file().then_some(folder)

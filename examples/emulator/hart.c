@@ -1,5 +1,5 @@
-/* A memory bus of an RV64 hart with a software TLB, which asks the library where a page comes into the TLB, and keeps
- * the pages that a write of a CSR didn't move. Reads a trace from standard input:
+/* A memory bus of an RV64 hart with a software TLB, which asks the library when a page enters the TLB, and keeps the
+ * pages that a CSR write didn't move. Reads a trace from standard input:
  *
  *     write CSR VALUE                  writes a CSR
  *     fetch|load U|S|M ADDRESS LENGTH  reads up to 8 bytes, as instruction or as data
@@ -7,10 +7,10 @@
  *     migrate                          saves the registers and takes them back into a unit of other memory
  *     # ..                             a comment
  *
- * and prints what each line came to. A page whose rights are mixed stays out of the TLB, which has a few runs of bytes
- * with the same rights in its place. A page is asked for as physical memory, since this hart translates no address.
+ * and prints the result of each line. A page with mixed rights stays out of the TLB; a few runs of bytes with equal
+ * rights are kept instead. A page is asked for as physical memory, since this hart translates no addresses.
  *
- * An RV32 hart differs in its reset alone: tilvenka_pmp_reset(&hart.pmp, TILVENKA_PMP_HART_RV32(16, 4, 34, true)). */
+ * An RV32 hart differs only in its reset: tilvenka_pmp_reset(&hart.pmp, TILVENKA_PMP_HART_RV32(16, 4, 34, true)). */
 #include "tilvenka_pmp.h"
 
 #include <inttypes.h>
@@ -35,7 +35,7 @@ struct run {
 
 struct hart {
     tilvenka_pmp_unit pmp;
-    uint64_t questions; /* to the unit since its registers changed */
+    uint64_t questions; /* asked since the registers changed */
     struct translation tlb[MODES][TLB_SIZE];
     struct run runs[MODES][RUNS];
     unsigned next_run;
@@ -48,7 +48,7 @@ struct access {
     uint64_t address, length;
 };
 
-/* Forgets each page and each run that has a byte from first to last. */
+/* Drops each page and each run that has a byte from first to last. */
 static void forget(struct hart *hart, uint64_t first, uint64_t last) {
     for (unsigned mode = 0; mode < MODES; mode++) {
         for (unsigned place = 0; place < TLB_SIZE; place++) {
@@ -83,7 +83,7 @@ static void migrate(struct hart *hart) {
     forget(hart, 0, UINT64_MAX);
 }
 
-/* The unit, before each question to it: its map is built once that pays. */
+/* Returns the unit for one question: its map is built once that pays off. */
 static const tilvenka_pmp_unit *unit_to_ask(struct hart *hart) {
     tilvenka_pmp_settle(&hart->pmp, ++hart->questions);
     return &hart->pmp;
@@ -94,7 +94,7 @@ static uint32_t right_of(uint32_t kind) {
     return rights[kind];
 }
 
-/* The page's rights, from the TLB or from the unit; only rights that hold for the whole page are kept. */
+/* Returns the page's rights, from the TLB or the unit; only rights of the whole page are kept. */
 static uint32_t page_rights(struct hart *hart, uint32_t mode, uint64_t page) {
     struct translation *kept = &hart->tlb[mode][page / PAGE % TLB_SIZE];
     if (kept->is_valid && kept->page == page) {
@@ -113,7 +113,7 @@ static bool has(const struct run *run, const struct access *access) {
         && access->length - 1 <= run->last - access->address;
 }
 
-/* The rights of the run that has the whole access, or none. */
+/* Returns the rights of the run that contains the whole access, or none. */
 static uint32_t run_rights(struct hart *hart, const struct access *access) {
     for (unsigned place = 0; place < RUNS; place++)
         if (has(&hart->runs[access->mode][place], access))
@@ -125,7 +125,7 @@ static uint32_t run_rights(struct hart *hart, const struct access *access) {
     return has(kept, access) ? kept->rights : 0;
 }
 
-/* Rights that hold for the whole access. An access across a page's end is in a run or in none. */
+/* Returns rights of the whole access. An access across a page's end is in one run or in none. */
 static uint32_t known_rights(struct hart *hart, const struct access *access) {
     uint64_t page = access->address / PAGE * PAGE;
     if (access->length - 1 < page + PAGE - access->address) {
@@ -136,14 +136,14 @@ static uint32_t known_rights(struct hart *hart, const struct access *access) {
     return run_rights(hart, access);
 }
 
-/* The answer to an access. Where the right to it is known, nothing is decided, and 0 says no more than "allowed". */
+/* Returns the answer to an access. If its right is known, nothing is decided, and 0 only means "allowed". */
 static uint32_t ask(struct hart *hart, const struct access *access) {
     if (known_rights(hart, access) & right_of(access->kind))
         return 0;
     return tilvenka_pmp_decide(unit_to_ask(hart), access->mode, access->kind, access->address, access->length);
 }
 
-/* The memory of the access, or NULL where the bus has none. */
+/* Returns the memory of the access, or NULL if the bus has none. */
 static uint8_t *memory_of(struct hart *hart, const struct access *access) {
     uint64_t offset = access->address - RAM_START;
     return offset <= RAM_SIZE && access->length <= RAM_SIZE - offset ? hart->ram + offset : NULL;
@@ -200,7 +200,7 @@ static bool read_kind(const char *word, uint32_t *kind) {
     return false;
 }
 
-/* The words of a line, of which there are at most five. */
+/* The words of a line, at most five. */
 struct words {
     int count;
     char word[5][32];
@@ -246,7 +246,7 @@ static bool run_line(struct hart *hart, const char *line) {
 }
 
 int main(void) {
-    static struct hart hart; /* zeroed, so its unit is as after reset */
+    static struct hart hart; /* zeroed, so its unit is in the reset state */
     char line[128];
     for (unsigned number = 1; fgets(line, sizeof line, stdin) != NULL; number++) {
         if (line[0] == '#' || line[0] == '\n')

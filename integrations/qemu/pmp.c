@@ -1,6 +1,6 @@
 /* SPDX-License-Identifier: MIT OR Apache-2.0 */
-/* The PMP units of QEMU's harts over the library: what takes the place of target/riscv/pmp.c in a QEMU 10 that has the
- * patch of its version, written from pmp.h and those who call it. QEMU linked with it is under QEMU's licence. */
+/* The PMP units of QEMU's harts, using the library: replaces target/riscv/pmp.c in a QEMU 10 with the patch of its
+ * version, written from pmp.h and its callers. QEMU linked with it is under QEMU's licence. */
 #include "qemu/osdep.h"
 #include "qemu/error-report.h"
 #include "qemu/log.h"
@@ -25,7 +25,7 @@ static const struct {
     {TILVENKA_PMP_GRAIN, "the grain is coarser"},
 };
 
-/* What was told of the registers before they changed. */
+/* Drops what was reported of the registers before they changed. */
 static void forget_runs(pmp_table_t *state)
 {
     state->questions = 0;
@@ -47,8 +47,8 @@ static uint64_t read_register(CPURISCVState *env, uint32_t csr)
     return value;
 }
 
-/* The TLB is flushed where what moved meets a page that went into it since the last flush here. All of it is, since it
- * goes by virtual addresses. Why the register doesn't read the value is a line in the log of guest errors. */
+/* The TLB is flushed if what moved overlaps a page that entered it since the last flush here. All of it is flushed,
+ * since it uses virtual addresses. Why the register doesn't read the value is logged as a guest error. */
 static void write_register(CPURISCVState *env, uint32_t csr, target_ulong val)
 {
     pmp_table_t *state = &env->pmp_state;
@@ -96,7 +96,7 @@ target_ulong pmpaddr_csr_read(CPURISCVState *env, uint32_t addr_index)
     return val;
 }
 
-/* The bits of mseccfg that are of other extensions, where the hart has these. */
+/* The mseccfg bits of other extensions, if the hart has these. */
 static uint64_t bits_of_others(CPURISCVState *env)
 {
     const RISCVCPUConfig *cfg = riscv_cpu_cfg(env);
@@ -104,7 +104,7 @@ static uint64_t bits_of_others(CPURISCVState *env)
         | (cfg->ext_smmpm && riscv_cpu_mxl(env) == MXL_RV64 ? MSECCFG_PMM : 0);
 }
 
-/* env->mseccfg has the unit's bits and those of others: QEMU looks for the latter there. */
+/* env->mseccfg holds the unit's bits and those of others: QEMU looks there for the latter. */
 void mseccfg_csr_write(CPURISCVState *env, target_ulong val)
 {
     uint64_t others = bits_of_others(env);
@@ -129,7 +129,7 @@ static void ask_run(const tilvenka_pmp_unit *unit, target_ulong mode, hwaddr add
     run->rights = tilvenka_pmp_is_no_access(answer) ? 0 : tilvenka_pmp_run_rights(answer);
 }
 
-/* The run of a byte, which is kept until the registers change. */
+/* Returns the run of a byte, which is kept until the registers change. */
 static const pmp_run_t *run_of(pmp_table_t *state, target_ulong mode, hwaddr addr)
 {
     pmp_run_t *kept = &state->runs[mode];
@@ -140,14 +140,14 @@ static const pmp_run_t *run_of(pmp_table_t *state, target_ulong mode, hwaddr add
     return kept;
 }
 
-/* An access that leaves the run of its first byte has bytes of two entries, or of one and of none: it fails. */
+/* An access that extends past the run of its first byte has bytes of two entries, or of one and none: it fails. */
 static bool is_open(const pmp_run_t *run, hwaddr last, pmp_priv_t privs, pmp_priv_t *allowed_privs)
 {
     *allowed_privs = last <= run->last ? run->rights : 0;
     return (*allowed_privs & privs) == privs;
 }
 
-/* As a debugger asks, or the monitor, while the hart may run: of the registers as they are, and nothing is kept. */
+/* For a debugger or the monitor, while the hart may run: uses the registers as they are, and keeps nothing. */
 static bool is_open_from_elsewhere(CPURISCVState *env, target_ulong mode, hwaddr addr, hwaddr last, pmp_priv_t privs,
                                    pmp_priv_t *allowed_privs)
 {
@@ -159,8 +159,8 @@ static bool is_open_from_elsewhere(CPURISCVState *env, target_ulong mode, hwaddr
     return is_open(&run, last, privs, allowed_privs);
 }
 
-/* QEMU's sets of rights have the library's bits. Where a caller doesn't know its size, and says 0, all up to the end of
- * the page has to be open. */
+/* QEMU's sets of rights use the library's bits. If a caller doesn't know its size, and passes 0, everything up to the
+ * end of the page must be open. */
 bool pmp_hart_has_privs(CPURISCVState *env, hwaddr addr, target_ulong size, pmp_priv_t privs,
                         pmp_priv_t *allowed_privs, target_ulong mode)
 {
@@ -173,8 +173,8 @@ bool pmp_hart_has_privs(CPURISCVState *env, hwaddr addr, target_ulong size, pmp_
     return is_open(run_of(state, mode, addr), last, privs, allowed_privs);
 }
 
-/* A page goes into the TLB where all its bytes have one run, which is so in each mode or in none. A size of 1 has QEMU
- * ask at every access. */
+/* A page enters the TLB if all its bytes have one run, which holds in every mode or in none. A size of 1 makes QEMU ask
+ * at every access. */
 target_ulong pmp_get_tlb_size(CPURISCVState *env, hwaddr addr)
 {
     pmp_table_t *state = &env->pmp_state;
@@ -194,7 +194,7 @@ int pmp_priv_to_page_prot(pmp_priv_t pmp_priv)
         | (pmp_priv & PMP_EXEC ? PAGE_EXEC : 0);
 }
 
-/* The number of the library for such a hart. */
+/* Returns the library's number for such a hart. */
 static uint64_t hart_of(CPURISCVState *env)
 {
     const RISCVCPUConfig *cfg = riscv_cpu_cfg(env);

@@ -1,6 +1,6 @@
 /* SPDX-License-Identifier: MIT OR Apache-2.0 */
-/* `info pmp` of QEMU's monitor over the library: the runs of a hart's unit, as `pmp map` writes them, or how its unit
- * decides each access to some bytes, and by what. The patch puts it into QEMU's target/riscv. */
+/* `info pmp` of QEMU's monitor, using the library: the runs of a hart's unit, as `pmp map` writes them, or how its unit
+ * decides each access to some bytes, and why. The patch puts it into QEMU's target/riscv. */
 #include "qemu/osdep.h"
 #include "cpu.h"
 #include "monitor/hmp-target.h"
@@ -70,7 +70,7 @@ static void print_answers(Monitor *mon, const tilvenka_pmp_unit *unit, uint64_t 
     }
 }
 
-/* In the hart's own thread, where nothing changes the registers meanwhile. */
+/* Runs in the hart's own thread, so nothing changes the registers meanwhile. */
 static void save_registers(CPUState *cs, run_on_cpu_data data)
 {
     tilvenka_pmp_save(&cpu_env(cs)->pmp_state.unit, data.host_ptr);

@@ -43,7 +43,7 @@ def read(unit: Unit, question: str) -> str:
 
 
 def write(unit: Unit, question: str) -> str:
-    """A write is changed where the registers are others, and stored where the register reads the value."""
+    """A write is changed if the registers changed, and stored if the register reads the value."""
     name, value = question.split()
     after = unit.copy()
     try:
@@ -65,7 +65,7 @@ def settle(unit: Unit, question: str) -> str:
 
 
 def told(unit: Unit, after: Unit, call, *words: object) -> str:
-    """What is refused leaves the unit as it is, and what is done leaves no map."""
+    """A refused call leaves the unit unchanged, and a done one leaves no map."""
     try:
         call(*words)
     except ValueError:
@@ -126,7 +126,7 @@ def wanted(kind: str, text: str) -> str:
 
 
 def hart(words: str) -> tuple:
-    """ENTRIES/GRAIN/BITS/SMEPMP, or with /32 behind it that of RV32, by the words of Unit."""
+    """Returns ENTRIES/GRAIN/BITS/SMEPMP, or that of RV32 with /32 after it, in Unit's terms."""
     entries, grain, bits, smepmp, *xlen = words.split("/")
     return (int(entries), int(grain), int(bits), smepmp == "yes", *map(int, xlen))
 
@@ -148,7 +148,7 @@ def unit_after(hart: tuple, writes: str) -> Unit:
 
 
 def answers_of(hart: tuple, row: str) -> list[tuple[str, str]]:
-    """What is answered, and what is wanted: before the map is built, with it, and from a snapshot."""
+    """The answers and what is wanted: before the map is built, with it, and from a snapshot."""
     head, writes, question, text = (it.strip() for it in row.split("|"))
     kind = head.split()[1]
     ask = KINDS[kind]
@@ -172,7 +172,7 @@ def refuses(fault: type[Exception], call, *words) -> tuple[str, str]:
 
 
 class Call:
-    """A call that answers this."""
+    """A call that returns this."""
 
     def __init__(self, answer: int) -> None:
         self.answer = answer
@@ -182,12 +182,12 @@ class Call:
 
 
 def library(version: int, size: int) -> SimpleNamespace:
-    """A library that says that it is of this version, and that its units have this size."""
+    """A library that reports this version and this size of its units."""
     return SimpleNamespace(tilvenka_pmp_version=Call(version), tilvenka_pmp_unit_size=Call(size))
 
 
 def versions() -> list[tuple[object, object]]:
-    """Which libraries the module takes, and which version it has."""
+    """Which libraries the module accepts, and which version it has."""
     takes = _c.expect_compatible
     taken = [(200, 9280), (201, 9280)]
     refused = [library(*it) for it in ((100, 9280), (300, 9280), (10200, 9280), (200, 9272))] + [SimpleNamespace()]
@@ -199,7 +199,7 @@ def versions() -> list[tuple[object, object]]:
 
 
 def copies() -> list[tuple[object, object]]:
-    """A copy is a unit of its own, however it is made."""
+    """A copy is an independent unit, however it is made."""
     unit = unit_after((16,), "pmpaddr0 0x200001ff; pmpcfg0 0x19")
     made = [unit.copy(), copy.copy(unit), copy.deepcopy(unit)]
     same = [it == unit for it in made]
@@ -209,7 +209,7 @@ def copies() -> list[tuple[object, object]]:
 
 
 def buffers() -> list[tuple[object, object]]:
-    """Any writable buffer takes questions."""
+    """Any writable buffer is accepted."""
     unit, asked = Unit(), Question(0x80000000, 8, Mode.USER, Kind.LOAD)
     buffer = bytearray(bytes(asked) * 3)
     unit.decide_many(buffer)
@@ -226,7 +226,7 @@ def buffers() -> list[tuple[object, object]]:
 
 
 def others() -> list[tuple[object, object]]:
-    """What no row says."""
+    """What no row covers."""
     unit = unit_after((16,), "pmpaddr0 0x200001ff; pmpcfg0 0x19")
     return [
         *copies(),

@@ -1,4 +1,4 @@
-"""The PMP unit of an RV64 or RV32 hart with Smepmp 1.0, by the proved C library tilvenka_pmp.
+"""The PMP unit of an RV64 or RV32 hart with Smepmp 1.0, from the proved C library tilvenka_pmp.
 
     >>> unit = Unit()                                   # sixteen entries after reset
     >>> unit.write("pmpaddr0", 0x200001ff).is_changed   # each CSR write, as firmware makes it
@@ -10,8 +10,8 @@
 
 Addresses are byte addresses of physical memory, and lengths are in bytes.
 
-The shared library is the one beside this file, where there is one; else the one that TILVENKA_PMP_LIBRARY names, or
-that the loader finds."""
+The shared library is the one beside this file, if there is one; else the one that TILVENKA_PMP_LIBRARY names, or that
+the loader finds."""
 from __future__ import annotations
 
 import ctypes
@@ -42,12 +42,12 @@ __all__ = [
 ]
 
 
-# The fields of a Question, as numpy.dtype takes them.
+# The fields of a Question, in the form numpy.dtype takes.
 QUESTION = [("start", "=u8"), ("length", "=u4"), ("mode", "=u4"), ("kind", "=u4"), ("answer", "=u4")]
 
 
 class Mode(enum.IntEnum):
-    """The effective mode of an access: that of MPP for loads and stores under MPRV, supervisor mode for a page walk."""
+    """The effective mode of an access: that of MPP for loads and stores under MPRV, S-mode for page table walks."""
 
     USER = 0
     SUPERVISOR = 1
@@ -55,7 +55,7 @@ class Mode(enum.IntEnum):
 
 
 class Kind(enum.IntEnum):
-    """What the bytes are accessed for. An AMO or a store-conditional is a store."""
+    """The kind of an access. An AMO or a store-conditional is a store."""
 
     FETCH = 0
     LOAD = 1
@@ -63,7 +63,7 @@ class Kind(enum.IntEnum):
 
 
 class Rights(enum.IntFlag):
-    """What every access inside a range may do."""
+    """The rights of every access inside a range."""
 
     READ = 1
     WRITE = 2
@@ -82,46 +82,46 @@ class Reason(enum.IntFlag):
     'bits'
     """
 
-    # The value isn't zero for an entry that the hart doesn't have.
+    # The value isn't zero for an entry that the hart lacks.
     ABSENT = 256
-    # It has bits that the register doesn't have.
+    # It has bits that the register lacks.
     BITS = 512
-    # It has another byte or address for an entry that is frozen: locked, with RLB 0.
+    # It would change the byte or address of a frozen entry: locked, with RLB 0.
     FROZEN = 1024
-    # It is another address for an entry that isn't frozen, but the next one is, and is TOR.
+    # It would change the address of an unfrozen entry, but the next one is frozen and TOR.
     LOW_END = 2048
-    # It has W without R for an entry that isn't frozen, and MML is 0.
+    # It has W without R for an unfrozen entry, and MML is 0.
     RESERVED = 4096
-    # It would add a locked rule that executes, MML is 1 and RLB is 0.
+    # It would add a locked executable rule, MML is 1 and RLB is 0.
     LOCKDOWN = 8192
     # It would clear MML or MMWP.
     STICKY = 16384
-    # It would set RLB, and some entry is locked.
+    # It would set RLB while an entry is locked.
     BYPASS = 32768
-    # The grain is above 4 bytes, and it has NA4, or address bits that read otherwise.
+    # The grain is above 4 bytes, and it has NA4, or address bits that read differently.
     GRAIN = 65536
 
     @property
     def words(self) -> str:
-        """The words that `pmp writes` has for them, parted by one space."""
+        """The words of `pmp writes` for them, separated by one space."""
         words = "absent bits frozen tor reserved lockdown sticky bypass grain".split()
         return " ".join(word for bit, word in enumerate(words, 8) if self & 1 << bit)
 
 
 @dataclass(frozen=True)
 class Written:
-    """What a write did.
+    """The effects of a write.
 
     >>> Unit().write("mseccfg", 4).moved == (0, (1 << 56) - 1)  # RLB may open any byte
     True
     """
 
-    # Whether what the unit keeps is another than before, also where the grain hides it. Then the map isn't built.
+    # Whether what the unit stores changed, even where the grain hides it. Then the map isn't built.
     is_changed: bool
-    # The addresses of the first and the last byte whose decisions may be others than before: in every mode and kind an
-    # access with no byte from the one to the other is decided as before. None where every access is.
+    # The addresses of the first and the last byte whose decisions may have changed: in every mode and kind an access
+    # with no byte between them, inclusive, is decided as before. None if every access is.
     moved: Optional[Tuple[int, int]]
-    # Why the register doesn't read the value: none exactly where it does.
+    # Why the register doesn't read the value: empty exactly when it does.
     reasons: Reason
 
     @property
@@ -133,20 +133,20 @@ class Written:
 class Cause(enum.Enum):
     """What decided an access."""
 
-    RULE = "rule"  # the rule of an entry, which has all of the bytes
-    SPLIT = "split"  # an entry has some of the bytes, but not all
-    NO_MATCH = "none"  # no entry has any of the bytes
+    RULE = "rule"  # the rule of an entry that matches all of the bytes
+    SPLIT = "split"  # an entry matches some of the bytes, but not all
+    NO_MATCH = "none"  # no entry matches any of the bytes
 
 
 @dataclass(frozen=True)
 class Answer:
-    """Whether an access may be made, and what decided that. It is true where the access is allowed.
+    """Whether an access is allowed, and what decided that. It is true if the access is allowed.
 
     >>> bool(Unit().decide(Mode.USER, Kind.LOAD, 0, 8)), bool(Unit().decide(Mode.MACHINE, Kind.LOAD, 0, 8))
     (False, True)
     """
 
-    fault: Optional[int]  # the exception code of an access that fails: 1, 5 or 7
+    fault: Optional[int]  # the exception code of a failed access: 1, 5 or 7
     cause: Cause
     entry: Optional[int]
 
@@ -159,7 +159,7 @@ class Answer:
 
     @staticmethod
     def of_number(number: int) -> Answer:
-        """The answer that decide_many gives as this number. It raises ValueError where the question is no access."""
+        """Returns the answer that decide_many gives as this number. Raises ValueError if the question is no access."""
         fault, cause = divmod(number, _c.FAULT)
         if cause == _c.NO_ACCESS:
             raise ValueError("an access has 1 to 4096 bytes below 2^56")
@@ -171,7 +171,7 @@ class Answer:
 
 @dataclass(frozen=True)
 class Run:
-    """Consecutive bytes that one entry owns, the lowest-numbered that matches them, and what may be done with them."""
+    """Consecutive bytes that one entry owns, the lowest-numbered that matches them, and the rights on them."""
 
     first: int
     last: int
@@ -184,9 +184,9 @@ class Run:
 class Registers:
     """All registers of a unit, with zeros for those of entries that the hart lacks."""
 
-    # pmpaddr0 and so on: bits 55 to 2 of a byte address, or 33 to 2 on RV32, with those below the grain.
+    # pmpaddr0 and so on: bits 55 to 2 of a byte address, or 33 to 2 on RV32, including those below the grain.
     addresses: List[int] = field(default_factory=lambda: [0] * _c.MAX_ENTRIES)
-    # The byte of each entry in its pmpcfg register.
+    # Each entry's byte in its pmpcfg register.
     configurations: List[int] = field(default_factory=lambda: [0] * _c.MAX_ENTRIES)
     # MML in bit 0, MMWP in bit 1, RLB in bit 2.
     mseccfg: int = 0
@@ -196,8 +196,8 @@ class Registers:
 
 @dataclass(frozen=True)
 class Hart:
-    """How many entries a hart has, how many bytes its grain has, how many bits its physical addresses have, whether it
-    has Smepmp, and its XLEN."""
+    """The hart's number of entries, its grain in bytes, its number of physical address bits, whether it has Smepmp, and
+    its XLEN."""
 
     entries: int
     grain: int
@@ -212,20 +212,20 @@ class Hart:
 
 
 def version() -> Tuple[int, int, int]:
-    """The version of the library that is loaded: its major, its minor and its patch number. The import of a module with
-    another major or minor number fails with ImportError."""
+    """Returns the version of the loaded library: its major, minor and patch number. Importing a module with another
+    major or minor number fails with ImportError."""
     return _c.parts(_library.tilvenka_pmp_version())
 
 
 def _number(value: int, bits: int, what: str) -> int:
-    """The value, which ctypes would cut to its lowest bits."""
+    """Returns the value, which ctypes would cut to its lowest bits."""
     if not 0 <= value < 1 << bits:
         raise ValueError(f"{what} {value} is no number of {bits} bits")
     return value
 
 
 def _csr(register: Union[int, str]) -> int:
-    """The CSR number of a register, by its name or its number."""
+    """Returns the CSR number of a register, given its name or number."""
     if isinstance(register, int):
         return _number(register, 32, "register")
     if register in ("mseccfg", "mseccfgh"):
@@ -237,7 +237,7 @@ def _csr(register: Union[int, str]) -> int:
 
 
 def _hart(entries: int, grain: int, address_bits: Optional[int], has_smepmp: bool, xlen: int) -> int:
-    """The number that TILVENKA_PMP_HART or TILVENKA_PMP_HART_RV32 has for the hart."""
+    """Returns the number of TILVENKA_PMP_HART or TILVENKA_PMP_HART_RV32 for the hart."""
     if not 0 <= entries <= _c.MAX_ENTRIES:
         raise ValueError(f"a hart has 0 to {_c.MAX_ENTRIES} entries, not {entries}")
     if grain not in (1 << bit for bit in range(2, 13)):
@@ -253,17 +253,17 @@ def _hart(entries: int, grain: int, address_bits: Optional[int], has_smepmp: boo
 
 
 class Unit:
-    """The PMP unit of one hart: of so many entries, 0 to 64, a grain of so many bytes, 4, 8, 16 and so on to 4096,
-    physical addresses of so many bits, 34 to 56, or 32 to 34 where XLEN is 32, and the most where none are given, and
-    with Smepmp or not. ValueError says that there is no such hart.
+    """The PMP unit of one hart, with the given number of entries, 0 to 64, a grain in bytes, 4, 8, 16 and so on to
+    4096, physical address bits, 34 to 56, or 32 to 34 if XLEN is 32, by default the most, and with or without Smepmp.
+    Raises ValueError if there is no such hart.
 
     >>> Unit(8, 4096, 38, has_smepmp=False).read("pmpaddr8")   # of an entry that the hart lacks
     0
     >>> Unit(16, xlen=32).write("pmpcfg1", 0x19).is_stored     # RV32 has it, of entries 4 to 7
     True
 
-    Decisions and rights go by a map where build() or settle() built it after the last change, which is faster. They are
-    the same without it. Units are equal where their registers are."""
+    Decisions and rights use a map if build() or settle() built it after the last change, which is faster. They are the
+    same without it. Units are equal if their registers are."""
 
     def __init__(
         self,
@@ -284,8 +284,7 @@ class Unit:
         has_smepmp: bool = True,
         xlen: int = 64,
     ) -> None:
-        """Resets the unit, whose hart from now on is this one. It raises ValueError where there is no such hart, and
-        then the unit stays as it is.
+        """Resets the unit to this hart. Raises ValueError if there is no such hart, and then the unit is unchanged.
 
         >>> Unit().reset(64, grain=4096)
         """
@@ -294,7 +293,7 @@ class Unit:
 
     @property
     def hart(self) -> Hart:
-        """Its hart.
+        """The unit's hart.
 
         >>> print(Unit(8, 4096, 38, has_smepmp=False).hart)
         RV64 with 8 entries, grain 4096, 38 address bits and no Smepmp
@@ -311,9 +310,9 @@ class Unit:
             raise ValueError(f"{hart} is the number of no hart")
 
     def write(self, register: Union[int, str], value: int) -> Written:
-        """Writes a register, as firmware does in machine mode. What the unit doesn't store it ignores, as the manual
-        says. Where the hart has no such register, as an odd pmpcfg on RV64, or mseccfg without Smepmp, nothing changes,
-        and it raises KeyError.
+        """Writes a register, as firmware does in M-mode. Ignores what the unit doesn't store, as the manual says. If
+        the hart has no such register, such as an odd pmpcfg on RV64, or mseccfg without Smepmp, nothing changes, and
+        KeyError is raised.
 
         >>> unit = Unit()
         >>> unit.write("pmpcfg0", 0x1a).reasons.words   # W without R
@@ -329,26 +328,26 @@ class Unit:
         return Written(bool(status & _c.CHANGED), moved, Reason(status >> 8 << 8))
 
     def read(self, register: Union[int, str]) -> int:
-        """What the register reads. Where the hart has no such register, it raises KeyError."""
+        """Returns what the register reads. Raises KeyError if the hart has no such register."""
         value = ctypes.c_uint64()
         self._expect_done(_library.tilvenka_pmp_read(self._unit, _csr(register), value), register)
         return value.value
 
     @staticmethod
     def _expect_done(status: int, register: Union[int, str]) -> None:
-        """What a write did is told in other bits."""
+        """Other bits report what a write did."""
         if status in (_c.ODD_CONFIGURATION, _c.NO_REGISTER):
             raise KeyError(register)
 
     def build(self) -> None:
-        """Builds the map: for many questions that come after the last of several writes. settle() is for as many as
-        come."""
+        """Builds the map, for many questions after the last of several writes. settle() is for any number of
+        questions."""
         _library.tilvenka_pmp_build(self._unit)
 
     def settle(self, questions: int) -> bool:
-        """Builds the map where it isn't built and so many questions (decisions and rights) since the last change pay
-        for it. Answers whether it is built then. Count from 0 after a reset, a restore and each write that is_changed,
-        and one more at each question, before which this is called.
+        """Builds the map if it isn't built and the given number of questions (decisions and rights) since the last
+        change pays for it. Returns whether it is then built. Count from 0 after a reset, a restore and each write that
+        is_changed, add one for each question, and call this before it.
 
         >>> unit = Unit()
         >>> unit.write("pmpcfg0", 0x19).is_changed
@@ -360,16 +359,16 @@ class Unit:
 
     @property
     def is_built(self) -> bool:
-        """Whether the map is built. A write that changes something leaves none."""
+        """Whether the map is built. After a write that changes something it isn't."""
         return bool(_library.tilvenka_pmp_is_built(self._unit))
 
     def decide(self, mode: Mode, kind: Kind, start: int, length: int) -> Answer:
-        """Decides an access. It raises ValueError where the numbers name none: no bytes or more than 4096, or an end
+        """Decides an access. Raises ValueError if the numbers describe none: no bytes or more than 4096, or an end
         above 2^56."""
         return self._answer(_library.tilvenka_pmp_decide, mode, kind, start, length)
 
     def decide_by_registers(self, mode: Mode, kind: Kind, start: int, length: int) -> Answer:
-        """The same by the registers alone: slower, and independent of the map."""
+        """Decides by the registers alone: slower, and independent of the map."""
         return self._answer(_library.tilvenka_pmp_decide_by_registers, mode, kind, start, length)
 
     def _answer(self, call: ctypes._NamedFuncPointer, mode: Mode, kind: Kind, start: int, length: int) -> Answer:
@@ -377,9 +376,9 @@ class Unit:
         return Answer.of_number(call(self._unit, Mode(mode), Kind(kind), start, length))
 
     def decide_many(self, questions: Union[bytearray, memoryview, ctypes.Array]) -> None:
-        """Decides the accesses of a writable buffer of questions, each of 24 bytes: its start, of 8 bytes, and of 4
-        bytes each its length, mode, kind and answer. The answers are written there: each the number of an Answer. An
-        array of Question is such a buffer, and so is one of numpy whose dtype is QUESTION.
+        """Decides the accesses of a writable buffer of questions, each of 24 bytes: its start, of 8 bytes, and its
+        length, mode, kind and answer, of 4 bytes each. The answers are written there, each as the number of an Answer.
+        An array of Question is such a buffer, and so is a numpy array whose dtype is QUESTION.
 
         >>> questions = (Question * 2)((0x80000000, 8, Mode.USER, Kind.LOAD), (0x80000000, 8, Mode.MACHINE, Kind.LOAD))
         >>> Unit().decide_many(questions)
@@ -393,8 +392,8 @@ class Unit:
         _library.tilvenka_pmp_decide_many(self._unit, (Question * count).from_buffer(view), count)
 
     def rights(self, mode: Mode, start: int, length: int) -> Optional[Rights]:
-        """What every access of the mode inside the range may do. None where not all bytes have the same entry, so that
-        each access has to be decided. It raises ValueError where the range has no bytes or ends above 2^56."""
+        """Returns the rights of every access of the mode inside the range. None if not all bytes have the same entry,
+        so each access has to be decided. Raises ValueError if the range has no bytes or ends above 2^56."""
         start, length = _number(start, 64, "start"), _number(length, 64, "length")
         number = _library.tilvenka_pmp_rights(self._unit, Mode(mode), start, length)
         if number == _c.NO_RANGE:
@@ -402,14 +401,14 @@ class Unit:
         return None if number == _c.MIXED else Rights(number)
 
     def save(self) -> Registers:
-        """All registers."""
+        """Returns all registers."""
         saved = _c.Registers()
         _library.tilvenka_pmp_save_to(self._unit, saved)
         return Registers(list(saved.addresses), list(saved.configurations), saved.mseccfg, saved.entries)
 
     def restore(self, registers: Registers) -> None:
-        """Takes registers back, whatever they hold and whatever is locked. It raises ValueError where their number
-        names no hart, and then the unit stays as it is.
+        """Restores registers, whatever they hold and whatever is locked. Raises ValueError if their number names no
+        hart, and then the unit is unchanged.
 
         >>> unit = Unit()
         >>> unit.restore(Unit(64).save())
@@ -423,7 +422,7 @@ class Unit:
         self._expect_hart(_library.tilvenka_pmp_restore_from(self._unit, saved), hart)
 
     def run(self, address: int) -> Run:
-        """All bytes round this one that have the same entry, or none. It raises ValueError where the address isn't
+        """Returns all bytes around this one that have the same entry, or none. Raises ValueError if the address isn't
         below 2^56.
 
         >>> run = Unit().run(0x80000000)
@@ -442,7 +441,7 @@ class Unit:
         return Run(first.value, last.value, entry, Rights(rights), Rights(others // _c.FAULT))
 
     def map(self) -> List[Run]:
-        """The runs of all bytes, in order: as `pmp map` writes them."""
+        """Returns the runs of all bytes, in order, as `pmp map` writes them."""
         built, runs = self.copy(), [self.run(0)]
         built.build()
         while runs[-1].last + 1 < 1 << 56:
@@ -450,7 +449,7 @@ class Unit:
         return runs
 
     def copy(self) -> Unit:
-        """A unit of its own with these registers and this map."""
+        """Returns an independent unit with these registers and this map."""
         other = Unit.__new__(Unit)
         other._unit = _c.Unit.from_buffer_copy(self._unit)
         return other

@@ -1,4 +1,4 @@
-"""What is taken of tilvenka_pmp.h, by its names without their prefix, which checks/release compares."""
+"""The parts of tilvenka_pmp.h in use, by their names without prefix, which checks/release compares."""
 from __future__ import annotations
 
 import ctypes
@@ -54,8 +54,8 @@ class Question(ctypes.Structure):
 
 
 def expect_compatible(library: ctypes.CDLL, path: str) -> None:
-    """Raises ImportError where the library isn't one for this module: its major and minor numbers are the module's, and
-    so is the size of its units."""
+    """Raises ImportError if the library doesn't fit this module: it needs the module's major and minor numbers, and the
+    same size of units."""
     try:
         version, size = library.tilvenka_pmp_version, library.tilvenka_pmp_unit_size
     except AttributeError as fault:
@@ -68,12 +68,12 @@ def expect_compatible(library: ctypes.CDLL, path: str) -> None:
 
 
 def parts(number: int) -> Tuple[int, int, int]:
-    """Major, minor and patch number."""
+    """Returns the major, minor and patch number."""
     return number // 10000, number // 100 % 100, number % 100
 
 
 def load() -> ctypes.CDLL:
-    """The library, whose calls get their types here."""
+    """Returns the library, with the types of its calls set."""
     name = "libtilvenka_pmp.so.2"
     beside = Path(__file__).with_name(name)
     path = str(beside) if beside.exists() else os.environ.get("TILVENKA_PMP_LIBRARY", name)

@@ -1,12 +1,12 @@
-//! What a unit is asked, and what it answers. Words are those of the command `pmp`.
+//! The accesses that a unit decides, and its answers. Their words are those of the command `pmp`.
 
 use crate::ffi;
 use crate::word::NoWord;
 use core::fmt;
 use core::str::FromStr;
 
-/// The effective mode of an access: that of MPP for loads and stores under MPRV, and supervisor mode where a page table
-/// is walked. Its words are `U`, `S` and `M`.
+/// The effective mode of an access: that of MPP for loads and stores under MPRV, and S-mode for page table walks. Its
+/// words are `U`, `S` and `M`.
 #[derive(Clone, Copy, Debug, PartialEq, Eq, Hash)]
 pub enum Mode {
     /// U-mode.
@@ -40,14 +40,14 @@ impl FromStr for Mode {
     }
 }
 
-/// What the bytes are accessed for. An AMO or a store-conditional is a store. Its words are `fetch`, `load` and `store`.
+/// The kind of an access. An AMO or a store-conditional is a store. Its words are `fetch`, `load` and `store`.
 #[derive(Clone, Copy, Debug, PartialEq, Eq, Hash)]
 pub enum Kind {
-    /// To execute them: right X.
+    /// Executes the bytes: right X.
     Fetch = ffi::FETCH as isize,
-    /// To read them: right R.
+    /// Reads the bytes: right R.
     Load = ffi::LOAD as isize,
-    /// To write them: right W.
+    /// Writes the bytes: right W.
     Store = ffi::STORE as isize,
 }
 
@@ -79,16 +79,16 @@ impl FromStr for Kind {
 pub struct Access {
     /// The effective mode.
     pub mode: Mode,
-    /// What the bytes are accessed for.
+    /// The kind of access.
     pub kind: Kind,
     /// The address of its first byte.
     pub start: u64,
-    /// How many bytes it has, 1 to 4096.
+    /// Its length in bytes, 1 to 4096.
     pub length: u64,
 }
 
 impl Access {
-    /// The access of so many bytes from this address on. Numbers that name none are refused where it is decided.
+    /// The access of `length` bytes starting at `start`. Invalid numbers are refused when it is decided.
     #[must_use]
     pub const fn new(mode: Mode, kind: Kind, start: u64, length: u64) -> Access {
         Access {
@@ -117,16 +117,16 @@ impl fmt::Display for Access {
 /// The exception of an access that fails, with its code.
 #[derive(Clone, Copy, Debug, PartialEq, Eq, Hash)]
 pub enum Fault {
-    /// Of a fetch.
+    /// A fetch failed.
     Instruction = 1,
-    /// Of a load.
+    /// A load failed.
     Load = 5,
-    /// Of a store.
+    /// A store failed.
     Store = 7,
 }
 
 impl Fault {
-    /// The code that `mcause` takes.
+    /// The code that `mcause` gets.
     #[must_use]
     pub const fn code(self) -> u64 {
         self as u64
@@ -147,11 +147,11 @@ impl fmt::Display for Fault {
 /// What decided an access.
 #[derive(Clone, Copy, Debug, PartialEq, Eq, Hash)]
 pub enum Cause {
-    /// The rule of this entry, which has all of the bytes.
+    /// The rule of this entry, which matches all of the bytes.
     Rule(u8),
-    /// This entry has some of the bytes, but not all.
+    /// This entry matches some of the bytes, but not all.
     Split(u8),
-    /// No entry has any of the bytes.
+    /// No entry matches any of the bytes.
     NoMatch,
 }
 
@@ -166,17 +166,17 @@ impl fmt::Display for Cause {
     }
 }
 
-/// Whether an access may be made, and what decided that.
+/// Whether an access is allowed, and what decided that.
 #[derive(Clone, Copy, Debug, PartialEq, Eq, Hash)]
 pub struct Answer {
-    /// `None` where the access is allowed.
+    /// `None` if the access is allowed.
     pub fault: Option<Fault>,
     /// What decided.
     pub cause: Cause,
 }
 
 impl Answer {
-    /// Whether the access may be made.
+    /// Whether the access is allowed.
     #[must_use]
     pub const fn is_allowed(&self) -> bool {
         self.fault.is_none()
@@ -216,7 +216,7 @@ impl fmt::Display for Answer {
     }
 }
 
-/// The numbers name no access: it has no bytes or more than 4096, or ends above 2^56.
+/// The numbers describe no access: it has no bytes or more than 4096, or ends above 2^56.
 #[derive(Clone, Copy, Debug, PartialEq, Eq, Hash)]
 pub struct NoAccess;
 

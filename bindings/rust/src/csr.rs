@@ -24,26 +24,26 @@ impl Csr {
     /// `mseccfg`, which a hart with Smepmp has.
     pub const MSECCFG: Csr = Csr(0x747);
 
-    /// `mseccfgh`, which such a hart has on RV32. It reads zero.
+    /// `mseccfgh`, which such a hart has on RV32. It reads as zero.
     pub const MSECCFGH: Csr = Csr(0x757);
 
-    /// `pmpaddr` of an entry.
+    /// The `pmpaddr` register of an entry.
     ///
     /// # Panics
     ///
-    /// Where the entry is above 63.
+    /// Panics if the entry is above 63.
     #[must_use]
     pub const fn address(entry: u8) -> Csr {
         assert!(entry < 64, "there are pmpaddr0 to pmpaddr63");
         Csr(ADDRESS + entry as u32)
     }
 
-    /// The `pmpcfg` register of this number. On RV64 it is even and has the configurations of eight entries, on RV32 it
-    /// has those of four.
+    /// The `pmpcfg` register with this number. On RV64 it is even and configures eight entries, on RV32 it configures
+    /// four.
     ///
     /// # Panics
     ///
-    /// Where the number is above 15.
+    /// Panics if the number is above 15.
     #[must_use]
     pub const fn configuration(number: u8) -> Csr {
         assert!(number < 16, "there are pmpcfg0 to pmpcfg15");
@@ -69,7 +69,7 @@ impl TryFrom<u32> for Csr {
     }
 }
 
-/// The name, as `pmpaddr0`.
+/// The name, such as `pmpaddr0`.
 impl fmt::Display for Csr {
     fn fmt(&self, to: &mut fmt::Formatter) -> fmt::Result {
         match *self {
@@ -81,7 +81,7 @@ impl fmt::Display for Csr {
     }
 }
 
-/// By its name, as `pmpaddr0`.
+/// Parses its name, such as `pmpaddr0`.
 impl FromStr for Csr {
     type Err = NoWord;
 
@@ -108,14 +108,14 @@ impl FromStr for Csr {
 /// The hart has no such register.
 #[derive(Clone, Copy, Debug, PartialEq, Eq, Hash)]
 pub enum NoRegister {
-    /// It is an odd `pmpcfg` register on RV64, which has none.
+    /// The register is an odd `pmpcfg`, of which RV64 has none.
     OddConfiguration,
-    /// It is none of the PMP registers, or `mseccfg` or `mseccfgh` on a hart that lacks it.
+    /// It isn't a PMP register, or is `mseccfg` or `mseccfgh` on a hart that lacks it.
     Unknown,
 }
 
 impl NoRegister {
-    /// Reads the status of a write or a read. What a write did is told in other bits.
+    /// Reads the status of a write or a read. Other bits report what a write did.
     pub(crate) fn of_status(number: u32) -> Result<(), NoRegister> {
         match number {
             ffi::ODD_CONFIGURATION => Err(NoRegister::OddConfiguration),

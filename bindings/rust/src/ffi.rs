@@ -1,4 +1,4 @@
-//! What is taken of `tilvenka_pmp.h`, by its names without their prefix, which `checks/release` compares.
+//! The parts of `tilvenka_pmp.h` in use, by their names without prefix, which `checks/release` compares.
 
 use crate::registers::Registers;
 use core::mem::size_of;
@@ -43,8 +43,8 @@ pub const EXECUTE: u32 = 4;
 pub const MIXED: u32 = 8;
 pub const NO_RANGE: u32 = 16;
 
-/// `TILVENKA_PMP_HART` and `TILVENKA_PMP_HART_RV32`, of arguments in their ranges: the number has the manual's G, where
-/// the grain is 2^(G+2) bytes.
+/// `TILVENKA_PMP_HART` and `TILVENKA_PMP_HART_RV32` for arguments in range: the number has the manual's G, for a grain
+/// of 2^(G+2) bytes.
 pub fn hart(is_rv32: bool, entries: u8, grain: u16, address_bits: u8, has_smepmp: bool) -> u64 {
     u64::from(entries)
         | u64::from(address_bits) << 8

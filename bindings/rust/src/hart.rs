@@ -4,7 +4,7 @@ use crate::ffi;
 use core::convert::Infallible;
 use core::fmt;
 
-/// How many entries a hart of RV64 has that has a grain of 4 bytes, addresses of 56 bits, and Smepmp.
+/// The number of entries of an RV64 hart with a grain of 4 bytes, 56-bit addresses, and Smepmp.
 #[derive(Clone, Copy, Debug, PartialEq, Eq, Hash)]
 pub enum Size {
     /// 16 entries.
@@ -13,8 +13,7 @@ pub enum Size {
     SixtyFour = 64,
 }
 
-/// How many entries a hart has, how fine they are, how wide its physical addresses are, whether it has Smepmp, and its
-/// XLEN.
+/// The hart's number of entries, its grain, its physical address width, whether it has Smepmp, and its XLEN.
 ///
 /// ```
 /// # use tilvenka_pmp::{Hart, Unit};
@@ -27,14 +26,14 @@ pub enum Size {
 pub struct Hart(u64);
 
 impl Hart {
-    /// The hart of RV64 with so many entries, 0 to 64, a grain of so many bytes, 4, 8, 16 and so on to 4096, and
-    /// addresses of so many bits, 34 to 56. `None` where there is no such hart.
+    /// The RV64 hart with this number of entries, 0 to 64, a grain in bytes, 4, 8, 16 and so on to 4096, and this
+    /// number of address bits, 34 to 56. `None` if there is no such hart.
     #[must_use]
     pub fn new(entries: u8, grain: u16, address_bits: u8, has_smepmp: bool) -> Option<Hart> {
         Hart::of(false, entries, grain, address_bits, has_smepmp)
     }
 
-    /// That of RV32, whose addresses have 32 to 34 bits.
+    /// The RV32 hart, whose addresses have 32 to 34 bits.
     ///
     /// ```
     /// # use tilvenka_pmp::{Csr, Hart, Unit};
@@ -60,13 +59,13 @@ impl Hart {
         })
     }
 
-    /// The number that saved registers have for it.
+    /// The number that saved registers use for it.
     #[must_use]
     pub const fn number(self) -> u64 {
         self.0
     }
 
-    /// Its number, or for 16 and 64 the one that has all of it.
+    /// Its number, or for 16 and 64 the full encoding.
     const fn whole(self) -> u64 {
         match self.0 {
             16 | 64 => USUAL | self.0,
@@ -74,19 +73,19 @@ impl Hart {
         }
     }
 
-    /// How many entries it has.
+    /// The number of entries.
     #[must_use]
     pub const fn entries(self) -> u8 {
         self.whole() as u8
     }
 
-    /// How many bytes its grain has.
+    /// The grain in bytes.
     #[must_use]
     pub const fn grain(self) -> u16 {
         4 << (self.whole() >> 24 & 0xff)
     }
 
-    /// How many bits its physical addresses have.
+    /// The number of physical address bits.
     #[must_use]
     pub const fn address_bits(self) -> u8 {
         (self.whole() >> 8) as u8
@@ -135,14 +134,14 @@ impl fmt::Display for Hart {
     }
 }
 
-/// That of sixteen entries of RV64 with a grain of 4 bytes, addresses of 56 bits, and Smepmp.
+/// The RV64 hart with sixteen entries, a grain of 4 bytes, 56-bit addresses, and Smepmp.
 impl Default for Hart {
     fn default() -> Hart {
         Size::Sixteen.into()
     }
 }
 
-/// What the number of a hart of RV64 has beside its entries that has a grain of 4 bytes, addresses of 56 bits, and Smepmp.
+/// The bits beside the entries in the number of an RV64 hart with a grain of 4 bytes, 56-bit addresses, and Smepmp.
 const USUAL: u64 = 1 << 32 | 1 << 16 | 56 << 8;
 
 impl From<Size> for Hart {
@@ -151,7 +150,7 @@ impl From<Size> for Hart {
     }
 }
 
-/// The hart of saved registers, by their number.
+/// The hart of saved registers, from their number.
 impl TryFrom<u64> for Hart {
     type Error = NoHart;
 
@@ -196,7 +195,7 @@ impl fmt::Display for NoHart {
     }
 }
 
-/// What names a hart always is no fault.
+/// A type that always names a hart can't fail.
 impl From<Infallible> for NoHart {
     fn from(none: Infallible) -> NoHart {
         match none {}

@@ -1,4 +1,4 @@
-//! The PMP unit of an RV64 or RV32 hart with Smepmp 1.0, by the proved C library `tilvenka_pmp`.
+//! The PMP unit of an RV64 or RV32 hart with Smepmp 1.0, from the proved C library `tilvenka_pmp`.
 //!
 //! ```
 //! use tilvenka_pmp::{Access, Csr, Kind, Mode, Size, Unit};
@@ -13,12 +13,12 @@
 //!
 //! A [`Unit`] takes the CSR writes that firmware makes, and decides an [`Access`] as the RISC-V Privileged
 //! Architecture, Volume II, says. It is plain numbers: it needs no allocation, and may be cloned and sent to other
-//! threads. No call has a condition on its numbers. Addresses are byte addresses of physical memory.
+//! threads. Calls accept any numbers. Addresses are byte addresses of physical memory.
 //!
 //! # Features
 //!
-//! - `std`, a default: the errors are [`std::error::Error`]s. Without it the crate is `no_std`.
-//! - `shared`: links the shared library, which has to be found where the program runs, and not the archive.
+//! - `std`, on by default: errors implement [`std::error::Error`]. Without it the crate is `no_std`.
+//! - `shared`: links the shared library, which must be found at run time, instead of the archive.
 //! - `static`: changes nothing. The archive is linked without it too.
 #![cfg_attr(not(any(test, feature = "std")), no_std)]
 #![warn(missing_docs)]

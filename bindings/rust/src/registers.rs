@@ -4,7 +4,7 @@ use crate::ffi::MAX_ENTRIES;
 use crate::hart::Hart;
 use core::fmt;
 
-/// All registers of a unit, as a snapshot has them.
+/// All registers of a unit, as in a snapshot.
 ///
 /// ```
 /// # use tilvenka_pmp::{Csr, Size, Unit};
@@ -16,18 +16,18 @@ use core::fmt;
 #[repr(C)]
 #[derive(Clone, Copy, PartialEq, Eq, Hash)]
 pub struct Registers {
-    /// `pmpaddr0` and so on: bits 55 to 2 of a byte address, or 33 to 2 on RV32, with those below the grain.
+    /// `pmpaddr0` and so on: bits 55 to 2 of a byte address, or 33 to 2 on RV32, including those below the grain.
     pub addresses: [u64; MAX_ENTRIES],
-    /// The byte of each entry in its `pmpcfg` register.
+    /// Each entry's byte in its `pmpcfg` register.
     pub configurations: [u8; MAX_ENTRIES],
     /// MML in bit 0, MMWP in bit 1, RLB in bit 2.
     pub mseccfg: u64,
-    /// The number of the hart, which [`Hart::try_from`] reads.
+    /// The hart's number, which [`Hart::try_from`] reads.
     pub entries: u64,
 }
 
 impl Registers {
-    /// Those that a reset leaves on this hart.
+    /// The registers of this hart after reset.
     #[must_use]
     pub const fn of(hart: Hart) -> Registers {
         Registers {
@@ -39,7 +39,7 @@ impl Registers {
     }
 }
 
-/// Those that a reset leaves on a hart of sixteen entries.
+/// The registers of a hart with sixteen entries after reset.
 impl Default for Registers {
     fn default() -> Registers {
         Registers::of(Hart::default())

@@ -1,10 +1,10 @@
-//! Which bytes have one owner, and what may be done with them.
+//! Runs of bytes with one owner, and the rights on them.
 
 use crate::ffi;
 use crate::unit::Unit;
 use core::fmt;
 
-/// What every access inside a range may do.
+/// The rights of every access inside a range.
 #[derive(Clone, Copy, Debug, PartialEq, Eq, Hash)]
 pub struct Rights {
     /// Load.
@@ -16,7 +16,7 @@ pub struct Rights {
 }
 
 impl Rights {
-    /// Those that a number has in its lowest bits.
+    /// The rights in the lowest bits of a number.
     pub(crate) const fn in_number(number: u32) -> Rights {
         Rights {
             read: number & ffi::READ != 0,
@@ -25,7 +25,7 @@ impl Rights {
         }
     }
 
-    /// `None` where the bytes don't all have the same entry.
+    /// `None` if the bytes don't all have the same entry.
     pub(crate) const fn of_number(number: u32) -> Result<Option<Rights>, NoRange> {
         match number {
             ffi::NO_RANGE => Err(NoRange),
@@ -49,7 +49,7 @@ impl fmt::Display for Rights {
     }
 }
 
-/// The numbers name no bytes below 2^56: a range that has none, or one above.
+/// The numbers describe no bytes below 2^56: an empty range, or one with bytes above.
 #[derive(Clone, Copy, Debug, PartialEq, Eq, Hash)]
 pub struct NoRange;
 
@@ -59,18 +59,18 @@ impl fmt::Display for NoRange {
     }
 }
 
-/// Consecutive bytes that one entry owns, and what may be done with them.
+/// Consecutive bytes that one entry owns, and the rights on them.
 #[derive(Clone, Copy, Debug, PartialEq, Eq, Hash)]
 pub struct Run {
-    /// The address of the first one.
+    /// The address of the first byte.
     pub first: u64,
-    /// The address of the last one.
+    /// The address of the last byte.
     pub last: u64,
     /// The lowest-numbered entry that matches them.
     pub owner: Option<u8>,
-    /// What M-mode may do there.
+    /// The rights of M-mode there.
     pub machine: Rights,
-    /// What S-mode and U-mode may do there.
+    /// The rights of S-mode and U-mode there.
     pub others: Rights,
 }
 
@@ -92,7 +92,7 @@ impl fmt::Display for Run {
     }
 }
 
-/// The runs of a unit, from byte 0 up to byte 2^56 - 1, as [`Unit::runs`] gives them.
+/// The runs of a unit, from byte 0 to byte 2^56 - 1, as returned by [`Unit::runs`].
 #[derive(Clone, Debug)]
 pub struct Runs {
     unit: Unit,
@@ -102,7 +102,7 @@ pub struct Runs {
 }
 
 impl Runs {
-    /// Those of a unit whose map is built, and has so many.
+    /// The runs of a unit whose map is built and has this many.
     pub(crate) fn of(unit: Unit, left: usize) -> Runs {
         Runs {
             unit,

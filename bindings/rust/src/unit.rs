@@ -1,4 +1,4 @@
-//! The unit. Each call of the C library stands once, here.
+//! The unit. Each call of the C library is made in one place, here.
 
 use crate::answer::{Access, Answer, Mode, NoAccess};
 use crate::csr::{Csr, NoRegister};
@@ -13,7 +13,7 @@ use core::hash::{Hash, Hasher};
 
 /// The PMP unit of one hart.
 ///
-/// Decisions and rights go by a map where [`Unit::build`] or [`Unit::settle`] built it after the last change, which is
+/// Decisions and rights use a map if [`Unit::build`] or [`Unit::settle`] built it after the last change, which is
 /// faster. They are the same without it.
 #[derive(Clone)]
 pub struct Unit {
@@ -21,11 +21,11 @@ pub struct Unit {
 }
 
 impl Unit {
-    /// The unit of a [`Hart`] or of a [`Size`](crate::Size) after reset, whose map isn't built.
+    /// The unit of a [`Hart`] or of a [`Size`](crate::Size) after reset, without a built map.
     ///
     /// # Panics
     ///
-    /// Where the library that is loaded isn't one for this crate, as [`is_compatible`] says.
+    /// Panics if the loaded library doesn't fit this crate, as [`is_compatible`] says.
     pub fn new(hart: impl Into<Hart>) -> Unit {
         assert!(
             is_compatible(),
@@ -44,7 +44,7 @@ impl Unit {
         }
     }
 
-    /// Its hart.
+    /// Returns its hart.
     ///
     /// ```
     /// # use tilvenka_pmp::{Hart, Unit};
@@ -55,12 +55,12 @@ impl Unit {
         Hart::try_from(self.unit.registers.entries).unwrap_or_default()
     }
 
-    /// Resets the unit, whose hart changes to this one: a [`Hart`], a [`Size`](crate::Size), or what a number names.
-    /// Where that is no hart, the unit stays as it is.
+    /// Resets the unit to a hart: a [`Hart`], a [`Size`](crate::Size), or one named by its number. If that names no
+    /// hart, the unit is unchanged.
     ///
     /// # Errors
     ///
-    /// `NoHart` where the number names none.
+    /// `NoHart` if the number names none.
     ///
     /// ```
     /// # use tilvenka_pmp::{NoHart, Size, Unit};
@@ -76,11 +76,11 @@ impl Unit {
         NoHart::of_status(unsafe { ffi::tilvenka_pmp_reset(&mut self.unit, hart.number()) })
     }
 
-    /// Writes a register, as firmware does in machine mode. What the unit doesn't store it ignores, as the manual says.
+    /// Writes a register, as firmware does in M-mode. Ignores what the unit doesn't store, as the manual says.
     ///
     /// # Errors
     ///
-    /// `NoRegister` where the hart has no such register. Then nothing changes.
+    /// `NoRegister` if the hart has no such register. Then nothing changes.
     ///
     /// ```
     /// # use tilvenka_pmp::{Csr, Size, Unit};
@@ -108,7 +108,7 @@ impl Unit {
     ///
     /// # Errors
     ///
-    /// `NoRegister` where the hart has no such register.
+    /// `NoRegister` if the hart has no such register.
     ///
     /// ```
     /// # use tilvenka_pmp::{Csr, Hart, NoRegister, Unit};
@@ -125,15 +125,15 @@ impl Unit {
         Ok(value)
     }
 
-    /// Builds the map: for many questions that come after the last of several writes. [`Unit::settle`] is for as many as
-    /// come.
+    /// Builds the map, for many questions after the last of several writes. [`Unit::settle`] is for any number of
+    /// questions.
     pub fn build(&mut self) {
         unsafe { ffi::tilvenka_pmp_build(&mut self.unit) }
     }
 
-    /// Builds the map where it isn't built and so many questions (decisions and rights) since the last change pay for
-    /// it. Answers whether it is built then. Count from 0 after a reset, a restore and each write that
-    /// [changed](Written::is_changed) something, and one more at each question, before which this is called.
+    /// Builds the map if it isn't built and the given number of questions (decisions and rights) since the last change
+    /// pays for it. Returns whether it is then built. Count from 0 after a reset, a restore and each write that
+    /// [changed](Written::is_changed) something, add one for each question, and call this before it.
     ///
     /// ```
     /// # use tilvenka_pmp::{Csr, Size, Unit};
@@ -148,17 +148,17 @@ impl Unit {
         unsafe { ffi::tilvenka_pmp_settle(&mut self.unit, questions) }
     }
 
-    /// Whether the map is built. A write that changes something leaves none.
+    /// Whether the map is built. After a write that changes something it isn't.
     #[must_use]
     pub fn is_built(&self) -> bool {
         unsafe { ffi::tilvenka_pmp_is_built(&self.unit) }
     }
 
-    /// Decides an access, by the map where it is built, and else by the registers.
+    /// Decides an access by the map if it is built, otherwise by the registers.
     ///
     /// # Errors
     ///
-    /// `NoAccess` where the numbers name none.
+    /// `NoAccess` if the numbers describe none.
     ///
     /// ```
     /// # use tilvenka_pmp::{Access, Cause, Fault, Kind, Mode, Size, Unit};
@@ -179,11 +179,11 @@ impl Unit {
         })
     }
 
-    /// The same by the registers alone: slower, and independent of the map.
+    /// Decides by the registers alone: slower, and independent of the map.
     ///
     /// # Errors
     ///
-    /// `NoAccess` where the numbers name none.
+    /// `NoAccess` if the numbers describe none.
     pub fn decide_by_registers(&self, access: &Access) -> Result<Answer, NoAccess> {
         let Access {
             mode,
@@ -202,12 +202,12 @@ impl Unit {
         })
     }
 
-    /// What every access of the mode inside the range of so many bytes may do, as a TLB wants it of a page. `None` where
-    /// not all bytes have the same entry, so that each access has to be decided.
+    /// Returns the rights of every access of the mode inside the range of `length` bytes, as for a page in a TLB.
+    /// `None` if not all bytes have the same entry, so each access has to be decided.
     ///
     /// # Errors
     ///
-    /// `NoRange` where the range has no bytes or ends above 2^56.
+    /// `NoRange` if the range has no bytes or ends above 2^56.
     ///
     /// ```
     /// # use tilvenka_pmp::{Mode, Size, Unit};
@@ -221,7 +221,7 @@ impl Unit {
         })
     }
 
-    /// All registers, with zeros for those of entries that the hart lacks.
+    /// Returns all registers, with zeros for those of entries that the hart lacks.
     #[must_use]
     pub fn save(&self) -> Registers {
         let mut registers = self.unit.registers;
@@ -229,12 +229,12 @@ impl Unit {
         registers
     }
 
-    /// Takes registers back, whatever they hold and whatever is locked. Where their number names no hart, the unit stays
-    /// as it is.
+    /// Restores registers, whatever they hold and whatever is locked. If their number names no hart, the unit is
+    /// unchanged.
     ///
     /// # Errors
     ///
-    /// `NoHart` then.
+    /// `NoHart` in that case.
     ///
     /// ```
     /// # use tilvenka_pmp::{Size, Unit};
@@ -246,11 +246,11 @@ impl Unit {
         NoHart::of_status(unsafe { ffi::tilvenka_pmp_restore_from(&mut self.unit, registers) })
     }
 
-    /// All bytes round this one that have the same entry, or none, as a TLB with entries of any size wants them.
+    /// Returns all bytes around this one that have the same entry, or none, as for a TLB with entries of any size.
     ///
     /// # Errors
     ///
-    /// `NoRange` where the address isn't below 2^56.
+    /// `NoRange` if the address isn't below 2^56.
     ///
     /// ```
     /// # use tilvenka_pmp::{Csr, Size, Unit};
@@ -281,7 +281,7 @@ impl Unit {
         })
     }
 
-    /// The runs of all bytes, in order: as `pmp map` writes them.
+    /// Returns the runs of all bytes, in order, as `pmp map` writes them.
     ///
     /// ```
     /// # use tilvenka_pmp::{Size, Unit};
@@ -304,7 +304,7 @@ impl Default for Unit {
     }
 }
 
-/// Units are equal where their registers are.
+/// Units are equal if their registers are.
 impl PartialEq for Unit {
     fn eq(&self, other: &Unit) -> bool {
         self.save() == other.save()

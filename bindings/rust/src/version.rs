@@ -3,7 +3,7 @@
 use crate::ffi;
 use core::mem::size_of;
 
-/// The version of the library that is linked or loaded: its major, its minor and its patch number.
+/// Returns the version of the linked or loaded library: its major, minor and patch number.
 ///
 /// ```
 /// assert_eq!(tilvenka_pmp::version().0, 0);
@@ -14,8 +14,7 @@ pub fn version() -> (u32, u32, u32) {
     (number / 10000, number / 100 % 100, number % 100)
 }
 
-/// Whether that library is one for this crate: its major and minor numbers are the crate's, and so is the size of its
-/// units.
+/// Whether that library fits this crate: it has the crate's major and minor numbers, and the same size of units.
 ///
 /// ```
 /// assert!(tilvenka_pmp::is_compatible());

@@ -1,8 +1,8 @@
-//! A word that names nothing.
+//! A word that isn't valid.
 
 use core::fmt;
 
-/// The word names no such thing.
+/// The word isn't a valid name of its kind.
 ///
 /// ```
 /// let fault = "X".parse::<tilvenka_pmp::Mode>().unwrap_err();

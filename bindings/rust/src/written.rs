@@ -1,4 +1,4 @@
-//! What a write did.
+//! The effects of a write.
 
 use crate::csr::NoRegister;
 use crate::ffi;
@@ -13,28 +13,28 @@ use core::ops::RangeInclusive;
 /// ```
 #[derive(Clone, Copy, Debug, PartialEq, Eq, Hash)]
 pub enum Reason {
-    /// The value isn't zero for an entry that the hart doesn't have.
+    /// The value isn't zero for an entry that the hart lacks.
     Absent = ffi::ABSENT as isize,
-    /// It has bits that the register doesn't have.
+    /// It has bits that the register lacks.
     Bits = ffi::BITS as isize,
-    /// It has another byte or address for an entry that is frozen: locked, with RLB 0.
+    /// It would change the byte or address of a frozen entry: locked, with RLB 0.
     Frozen = ffi::FROZEN as isize,
-    /// It is another address for an entry that isn't frozen, but the next one is, and is TOR.
+    /// It would change the address of an unfrozen entry, but the next one is frozen and TOR.
     LowEnd = ffi::LOW_END as isize,
-    /// It has W without R for an entry that isn't frozen, and MML is 0.
+    /// It has W without R for an unfrozen entry, and MML is 0.
     Reserved = ffi::RESERVED as isize,
-    /// It would add a locked rule that executes, MML is 1 and RLB is 0.
+    /// It would add a locked executable rule, MML is 1 and RLB is 0.
     Lockdown = ffi::LOCKDOWN as isize,
     /// It would clear MML or MMWP.
     Sticky = ffi::STICKY as isize,
-    /// It would set RLB, and some entry is locked.
+    /// It would set RLB while an entry is locked.
     Bypass = ffi::BYPASS as isize,
-    /// The grain is above 4 bytes, and it has NA4, or address bits that read otherwise.
+    /// The grain is above 4 bytes, and it has NA4, or address bits that read differently.
     Grain = ffi::GRAIN as isize,
 }
 
 impl Reason {
-    /// All of them, in the order in which a set gives them.
+    /// All reasons, in the order in which a set yields them.
     pub const ALL: [Reason; 9] = [
         Reason::Absent,
         Reason::Bits,
@@ -48,7 +48,7 @@ impl Reason {
     ];
 }
 
-/// The word that `pmp writes` has for it.
+/// Its word in `pmp writes`.
 impl fmt::Display for Reason {
     fn fmt(&self, to: &mut fmt::Formatter) -> fmt::Result {
         to.write_str(match self {
@@ -78,19 +78,19 @@ impl fmt::Display for Reason {
 pub struct Reasons(u32);
 
 impl Reasons {
-    /// Whether there is none.
+    /// Whether the set is empty.
     #[must_use]
     pub const fn is_empty(self) -> bool {
         self.0 == 0
     }
 
-    /// Whether this one is among them.
+    /// Whether the set contains this reason.
     #[must_use]
     pub const fn contains(self, reason: Reason) -> bool {
         self.0 & reason as u32 != 0
     }
 
-    /// Each of them, in the order of [`Reason::ALL`].
+    /// The reasons in the set, in the order of [`Reason::ALL`].
     pub fn iter(self) -> impl Iterator<Item = Reason> {
         Reason::ALL.into_iter().filter(move |it| self.contains(*it))
     }
@@ -102,7 +102,7 @@ impl fmt::Debug for Reasons {
     }
 }
 
-/// The words of `pmp writes`, parted by one space.
+/// The words of `pmp writes`, separated by one space.
 impl fmt::Display for Reasons {
     fn fmt(&self, to: &mut fmt::Formatter) -> fmt::Result {
         for (place, reason) in self.iter().enumerate() {
@@ -112,7 +112,7 @@ impl fmt::Display for Reasons {
     }
 }
 
-/// What a write did.
+/// The effects of a write.
 ///
 /// ```
 /// # use tilvenka_pmp::{Csr, Size, Unit};
@@ -125,12 +125,12 @@ impl fmt::Display for Reasons {
 /// ```
 #[derive(Clone, Debug, PartialEq, Eq, Hash)]
 pub struct Written {
-    /// Whether what the unit keeps is another than before, also where the grain hides it. Then the map isn't built.
+    /// Whether what the unit stores changed, even where the grain hides it. Then the map isn't built.
     pub is_changed: bool,
-    /// The addresses of the first and the last byte whose decisions may be others than before: in every mode and kind an
-    /// access with no byte from the one to the other is decided as before. `None` where every access is.
+    /// The addresses of the first and the last byte whose decisions may have changed: in every mode and kind an access
+    /// with no byte between them, inclusive, is decided as before. `None` if every access is.
     pub moved: Option<RangeInclusive<u64>>,
-    /// Why the register doesn't read the value: none exactly where it does.
+    /// Why the register doesn't read the value: empty exactly when it does.
     pub reasons: Reasons,
 }
 
@@ -141,7 +141,7 @@ impl Written {
         self.reasons.is_empty()
     }
 
-    /// Reads the status of a write, which says whether these bytes moved.
+    /// Reads the status of a write, which reports whether these bytes moved.
     pub(crate) fn of_status(status: u32, first: u64, last: u64) -> Result<Written, NoRegister> {
         NoRegister::of_status(status)?;
         Ok(Written {

@@ -60,7 +60,7 @@ fn read(unit: &Unit, question: &str) -> String {
         .map_or_else(absence, |value| format!("{value:#x}"))
 }
 
-/// An access of a byte that didn't move is decided as before. Bytes at both ends of each run stand for all.
+/// Accesses to bytes that didn't move are decided as before. Both end bytes of each run stand for all.
 fn stays_beside(moved: &Option<RangeInclusive<u64>>, before: &Unit, after: &Unit) {
     let runs = before.runs().chain(after.runs());
     let is_moved = |byte: &u64| moved.as_ref().map_or(false, |it| it.contains(byte));
@@ -77,7 +77,7 @@ fn stays_beside(moved: &Option<RangeInclusive<u64>>, before: &Unit, after: &Unit
     }
 }
 
-/// A write is changed where the registers are others, and stored where the register reads the value.
+/// A write is changed if the registers changed, and stored if the register reads the value.
 fn write(unit: &Unit, question: &str) -> String {
     let (name, value) = question.split_once(' ').unwrap();
     let (csr, value) = match csr(name) {
@@ -115,7 +115,7 @@ fn settle(unit: &Unit, question: &str) -> String {
     (if is_built { "yes" } else { "no" }).to_string()
 }
 
-/// What is refused leaves the unit as it is, and what is done leaves no map.
+/// A refused call leaves the unit unchanged, and a done one leaves no map.
 fn tell(unit: &Unit, after: &Unit, done: Result<(), NoHart>) -> String {
     match done {
         Ok(()) => {
@@ -148,7 +148,7 @@ fn restore(unit: &Unit, question: &str) -> String {
     tell(unit, &after, done)
 }
 
-/// Each run is that of its bytes, and they are as many as they say.
+/// Each run is that of its bytes, and the count of runs is right.
 fn map(unit: &Unit) -> String {
     let (runs, count) = (unit.runs().collect::<Vec<_>>(), unit.runs().len());
     assert_eq!(runs.len(), count);
@@ -178,7 +178,7 @@ fn answer(unit: &Unit, kind: &str, question: &str) -> String {
     }
 }
 
-/// The hart ENTRIES/GRAIN/BITS/SMEPMP, or with /32 behind it that of RV32, if there is one.
+/// The hart ENTRIES/GRAIN/BITS/SMEPMP, or that of RV32 with /32 after it, if there is one.
 fn hart(words: &str) -> Option<Hart> {
     let parts: Vec<&str> = words.split('/').collect();
     let [entries, grain, bits] = [0, 1, 2].map(|it| number(parts[it]) as u16);

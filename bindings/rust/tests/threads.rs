@@ -1,4 +1,4 @@
-//! Threads that decide by a hart's unit while its firmware writes: each has the unit of some publication.
+//! Threads that decide by a hart's unit while its firmware writes: each has the unit of one publication.
 
 use std::sync::atomic::{AtomicBool, Ordering};
 use std::sync::{Arc, RwLock};
