@@ -345,7 +345,7 @@ class Unit:
         _library.tilvenka_pmp_build(self._unit)
 
     def settle(self, questions: int) -> bool:
-        """Builds the map if it isn't built and the given number of questions (decisions and rights) since the last
+        """Builds the map if it isn't built and the given number of questions (decisions, rights, runs) since the last
         change pays for it. Returns whether it is then built. Count from 0 after a reset, a restore and each write that
         is_changed, add one for each question, and call this before it.
 

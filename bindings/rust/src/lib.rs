@@ -13,7 +13,7 @@
 //!
 //! A [`Unit`] takes the CSR writes that firmware makes, and decides an [`Access`] as the RISC-V Privileged
 //! Architecture, Volume II, says. It is plain numbers: it needs no allocation, and may be cloned and sent to other
-//! threads. Calls accept any numbers. Addresses are byte addresses of physical memory.
+//! threads. Calls of a unit accept any numbers. Addresses are byte addresses of physical memory.
 //!
 //! # Features
 //!
