@@ -131,8 +131,8 @@ impl Unit {
         unsafe { ffi::tilvenka_pmp_build(&mut self.unit) }
     }
 
-    /// Builds the map if it isn't built and the given number of questions (decisions, rights, runs) since the last change
-    /// pays for it. Returns whether it is then built. Count from 0 after a reset, a restore and each write that
+    /// Builds the map if it isn't built and the given number of questions (decisions, rights, runs) since the last
+    /// change pays for it. Returns whether it is then built. Count from 0 after a reset, a restore and each write that
     /// [changed](Written::is_changed) something, add one for each question, and call this before it.
     ///
     /// ```
