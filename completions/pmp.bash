@@ -9,11 +9,10 @@ _pmp() {
     case ${COMP_WORDS[1]} in
         check) words='--explain --after --expect --names M S U fetch load store stdin'; files=yes ;;
         why) words='--explain --after --names M S U fetch load store stdin'; files=yes ;;
-        audit) words='--explain --checkers --long --jobs --first-row stdin'; files=yes ;;
+        audit) words='--explain --checkers --long --jobs --first-row --names stdin'; files=yes ;;
         policy) words='--explain --each-write --names stdin'; files=yes ;;
         dump) words='--explain --after --script stdin'; files=yes ;;
-        map | entries) words='--explain --after --names stdin'; files=yes ;;
-        picture) words='--explain --after stdin'; files=yes ;;
+        map | picture | entries) words='--explain --after --names stdin'; files=yes ;;
         writes) words='--explain stdin'; files=yes ;;
         lint) words='--explain --accept --names stdin'; files=yes ;;
         diff) words='--explain --old-after --new-after --only --locks --names stdin'; files=yes ;;

@@ -21,7 +21,7 @@ complete -c pmp -n '__fish_seen_subcommand_from help' -f -a "$commands script tr
 complete -c pmp -n "__fish_seen_subcommand_from $commands" -l explain -d 'explain a refusal'
 complete -c pmp -n '__fish_seen_subcommand_from check why dump map picture entries' -l after -x \
     -a 'last mml mmwp rlb-clear' -d 'take the first N publications'
-complete -c pmp -n '__fish_seen_subcommand_from check why policy map entries lint diff harts' -l names -r \
+complete -c pmp -n '__fish_seen_subcommand_from check why audit policy map picture entries lint diff harts' -l names -r \
     -d 'take names of addresses'
 complete -c pmp -n '__fish_seen_subcommand_from lint' -l accept -x \
     -a 'rlb-left-on mmwp-off open-before-locked never-decides write-and-execute open-between late-write' \

@@ -4,7 +4,7 @@ use Rattle.std.specs.Prelude.{bytes_eq, if◌then◌else◌}
 use Rattle.std.specs.Fmt.{digits}
 use Rattle.std.specs.List.{flat_map, onto_first}
 use Rattle.pmp_names.specs.AddressNames.{Named}
-use Rattle.pmp_names.specs.NamedAddresses.{place_said}
+use Rattle.pmp_names.specs.NamedAddresses.{end_said, place_said}
 
 -- a quote begins quotes or ends them
 abbrev pub quoted_behind : (in_quotes : Bool) (byte : ℕ) → Bool
@@ -24,10 +24,12 @@ parts_of separator text = parts_from separator false text
 abbrev pub fields_of : (line : List ℕ) → List (List ℕ)
 fields_of line = parts_of 44 line
 
--- whether a column has addresses, by its head
-abbrev pub heads_addresses : (head : List ℕ) → Bool
-heads_addresses head =
-    bytes_eq head (codes "start") || (bytes_eq head (codes "first") || bytes_eq head (codes "last"))
+-- the address that a name says in a column with this head
+abbrev pub said_below : (head : List ℕ) → List Named → (field : List ℕ) → Option ℕ
+said_below head names field =
+    if bytes_eq head (codes "last") then end_said names field
+    else if bytes_eq head (codes "start") || bytes_eq head (codes "first") then place_said names field
+    else None
 
 -- a field with a number where a name leads somewhere
 abbrev pub number_for : Option ℕ → (field : List ℕ) → List ℕ
@@ -35,7 +37,7 @@ number_for (Some address) field = codes "0x" ++ digits 16 false address
 number_for None field = field
 
 abbrev pub numbered_field : List Named → (head field : List ℕ) → List ℕ
-numbered_field names head field = if heads_addresses head then number_for (place_said names field) field else field
+numbered_field names head field = number_for (said_below head names field) field
 
 -- the fields of a row below their heads
 abbrev pub numbered_fields : List Named → (heads fields : List (List ℕ)) → List (List ℕ)
@@ -60,8 +62,3 @@ numbered_lines names (header ∷ rows) = header ++ flat_map (λ row. codes "\n" 
 -- a text with numbers in the places of the names that its fields of addresses say, line by line
 abbrev pub numbered_text : List Named → (text : List ℕ) → List ℕ
 numbered_text names text = numbered_lines names (parts_of 10 text)
-
--- the same where names are given
-abbrev pub numbered : Option (List Named) → (text : List ℕ) → List ℕ
-numbered None text = text
-numbered (Some names) text = numbered_text names text

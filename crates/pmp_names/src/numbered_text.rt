@@ -3,13 +3,13 @@
 ghost use Rattle.std.specs.Prelude.{◌≡◌, ◌++◌, ◌∷◌, ◌<◌, IfOk, IfSome, List, OnOk, Some, codes, false, length, map, ℕ};
 ghost use Rattle.std.specs.Fmt.{digits};
 ghost use Rattle.pmp_names.specs.AddressNames.{Named};
-ghost use Rattle.pmp_names.specs.NumberedTexts.{fields_of, heads_addresses, numbered_field, numbered_fields};
-ghost use Rattle.pmp_names.specs.NumberedTexts.{numbered, numbered_row, numbered_text, parts_of, quoted_behind};
+ghost use Rattle.pmp_names.specs.NumberedTexts.{fields_of, numbered_field, numbered_fields, numbered_row, numbered_text};
+ghost use Rattle.pmp_names.specs.NumberedTexts.{parts_of, quoted_behind, said_below};
 ghost use Rattle.pmp_names.specs.Parts.{end_at, rest_of};
-ghost use Rattle.pmp_names.specs.NameLists.{named, plain_names};
+ghost use Rattle.pmp_names.specs.NameLists.{named};
 
 use crate::address_name::AddressName;
-use crate::named_address::read_place;
+use crate::named_address::{read_end, read_place};
 use pmp_text::append_line;
 use std::alloc::{AllocError, Global};
 use std::fmt;
@@ -60,10 +60,15 @@ fn split_part(text: &[u8], separator: u8) -> (&[u8], Option<&[u8]>)
     }
 }
 
-fn heads_addresses(head: &[u8]) -> bool
-    ensures { result ≡ heads_addresses head.now }
+/// Returns the address that a name in a field gives below this heading.
+fn read_below(names: &[AddressName<'_>], head: &[u8], field: &[u8]) -> Option<u64>
+    ensures { result ≡ said_below head.now (map named names.now) field.now }
 {
-    matches!(head, b"start" | b"first" | b"last")
+    match head {
+        b"last" => read_end(names, field),
+        b"start" | b"first" => read_place(names, field),
+        _ => None,
+    }
 }
 
 /// Appends a field, with a number instead of a name.
@@ -75,12 +80,10 @@ fn append_field(
 ) -> Result<(), AllocError>
     ensures { OnOk result (out.new.items ≡ out.old.items ++ numbered_field (map named names.now) head.now field.now) }
 {
-    if heads_addresses(head) {
-        if let Some(address) = read_place(names, field) {
-            return append_line(out, Number(address));
-        }
+    match read_below(names, head, field) {
+        Some(address) => append_line(out, Number(address)),
+        None => Ok(out.extend_from_slice(field)?),
     }
-    Ok(out.extend_from_slice(field)?)
 }
 
 /// Returns the heading of the next column, and the rest of the header.
@@ -138,18 +141,15 @@ fn append_numbered(
 }
 
 /// Returns a text whose first line is the header of the others, with numbers instead of these names in the fields of
-/// addresses; without names the text is unchanged.
+/// addresses.
 pub fn number_text(
     alloc: Global,
-    names: Option<&[AddressName<'_>]>,
-    text: Vec<u8>,
+    names: &[AddressName<'_>],
+    text: &[u8],
 ) -> Result<Vec<u8>, AllocError>
-    ensures { IfOk result (λ all. all.items ≡ numbered (plain_names names.entry) text.items) }
+    ensures { IfOk result (λ all. all.items ≡ numbered_text (map named names.now) text.now) }
 {
-    let Some(names) = names else {
-        return Ok(text);
-    };
     let mut all = Vec::new(alloc);
-    append_numbered(&mut all, names, &text)?;
+    append_numbered(&mut all, names, text)?;
     Ok(all)
 }

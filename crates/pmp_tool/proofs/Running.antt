@@ -49,7 +49,7 @@ use Rattle.pmp_tool.specs.Harts.{no_output as no_rows, no_room as no_rows_kept}
 use Rattle.pmp_tool.specs.NamedAnswers.{OneFails, apart, at_once, unkept, unwritten}
 use Rattle.pmp_tool.specs.Runs.{Answers, Does, DoesNot, DoesNotAt, Fails, TextFails, UndoneBy, UndoneFor, bad_names}
 use Rattle.pmp_tool.specs.Runs.{does, does_not, no_harts, no_memory, no_names, no_output, no_room, no_room_for_names}
-use Rattle.pmp_tool.specs.Runs.{no_text, of_harts, of_one, refused_word, refused_words, tells, undone}
+use Rattle.pmp_tool.specs.Runs.{no_text, of_harts, of_one, once, refused_word, refused_words, tells, twice, undone}
 
 module _ (words : List Text) (scripts traces : Inputs) (folders : Folders) (before after : Option (List ℕ)) (error : Error)
     (has : HasKind (fault_of pmp_app words) error)
@@ -287,13 +287,20 @@ does_not_keep words fine (undone command naming failure asks fails) two =
     long_or_kept words asks.names command _ _ (fine, asks.asks)
     (for_keeps _ _ _ command _ _ naming failure (new_folder command.request) fails two)
 
+none_kept : (words : List Text) {scripts traces : Inputs} {folders : Folders} {before after : Option (List ℕ)}
+    {failure : Failure} → fault_of pmp_app words ≡ []
+    → DoesNot (subcommand_of pmp_app words) scripts traces folders before after failure
+    → failure_status failure ≡ 2 → AsksForPieces words ⊎ Keeps before after
+none_kept words fine (twice fault both keeps) two = inr keeps
+none_kept words fine (once path failure at fails) two = does_not_keep words fine fails two
+
 pub keeps_at_two : {words : List Text} {scripts traces : Inputs} {folders : Folders} {before after : Option (List ℕ)} {failure : Failure}
     → Fails words scripts traces folders before after failure → failure_status failure ≡ 2
     → AsksForPieces words ⊎ Keeps before after
 keeps_at_two (refused_words error refused keeps) two = inr keeps
 keeps_at_two (no_memory keeps) two = inr keeps
 keeps_at_two (no_text failure asked fails) two = inr (text_keeps fails two)
-keeps_at_two {words = words} (does_not failure fine fails) two = does_not_keep words fine fails two
+keeps_at_two {words = words} (does_not failure fine fails) two = none_kept words fine fails two
 
 -- names that can't be read are why nothing is done
 pub names_fail : (found : Option (Text × List Row)) (scripts traces : Inputs) (folders : Folders)

@@ -107,12 +107,12 @@ arguments_of Why =
     ∷ argument.After ∷ argument.Names ∷ []
 arguments_of Audit =
     argument.Script ∷ argument.Explain ∷ argument.Trace ∷ argument.Checkers ∷ argument.Long ∷ argument.Jobs
-    ∷ argument.FirstRow ∷ []
+    ∷ argument.FirstRow ∷ argument.Names ∷ []
 arguments_of Policy =
     argument.Script ∷ argument.Explain ∷ argument.Policy ∷ argument.EachWrite ∷ argument.Names ∷ []
 arguments_of Dump = argument.Script ∷ argument.Explain ∷ argument.After ∷ argument.AsScript ∷ []
 arguments_of Map = argument.Script ∷ argument.Explain ∷ argument.After ∷ argument.Names ∷ []
-arguments_of Picture = argument.Script ∷ argument.Explain ∷ argument.After ∷ []
+arguments_of Picture = argument.Script ∷ argument.Explain ∷ argument.After ∷ argument.Names ∷ []
 arguments_of Entries = argument.Script ∷ argument.Explain ∷ argument.After ∷ argument.Names ∷ []
 arguments_of Writes = argument.Script ∷ argument.Explain ∷ []
 arguments_of Lint = argument.Script ∷ argument.Explain ∷ argument.Accept ∷ argument.Names ∷ []

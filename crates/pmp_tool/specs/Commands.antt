@@ -46,7 +46,7 @@ use Rattle.pmp_tool.specs.declared.fault_line.FaultLine.{FaultLine}
 use Rattle.pmp_tool.specs.declared.word.Xlen.{Xlen}
 use Rattle.pmp_tool.specs.Arguments.{command_word, commands}
 use Rattle.pmp_tool.specs.HartWords.{hart_in, is_hart_said, security_in}
-use Rattle.pmp_tool.specs.Words.{and_then, asked_in, bad_word, count_in, expected_named, is_bare_word, is_set, is_used}
+use Rattle.pmp_tool.specs.Words.{and_then, asked_in, bad_word, count_in, expected_named, is_bare_word, is_set, is_stdin, is_used}
 use Rattle.pmp_tool.specs.Words.{needed_in, of_no_word, of_word, only_named, smepmp_named, word_in, xlen_named}
 
 -- an access, in plain values
@@ -152,10 +152,10 @@ whole_audit_in trace rows =
     if is_used argument.Jobs rows || is_used argument.FirstRow rows then Err (of_no_word BadWord)
     else and_then (count_in CHECKERS argument.Checkers rows) (λ checkers. Ok (Audit trace checkers))
 
--- an audit of a trace that is taken piece by piece: row 1 is its first where the words don't say it
+-- an audit of a trace that is taken piece by piece, without names: row 1 is its first where the words don't say it
 abbrev pub long_audit_in : (trace : Text) → List Row → Result Task FaultLine
 long_audit_in trace rows =
-    if is_used argument.Checkers rows then Err (of_no_word BadWord)
+    if is_used argument.Checkers rows || is_used argument.Names rows then Err (of_no_word BadWord)
     else and_then (count_in JOBS argument.Jobs rows) (λ jobs.
     and_then (count_in (2 ^ 64 - 1) argument.FirstRow rows) (λ first. Ok (LongAudit trace jobs (unwrap_or first 1))))
 
@@ -265,6 +265,17 @@ asked_below names (word, rows) =
 unfoldable pub asked_of : List Named → Option (Text × List Row) → Result Asked FaultLine
 asked_of names found = and_then (ok_or found (of_no_word BadWord)) (asked_below names)
 
--- the path of the names that it asks for
-abbrev pub names_path_in : Option (Text × List Row) → Option Text
-names_path_in found = option_and_then (λ (word, rows). word_in argument.Names rows) found
+-- the script or the second input is standard input
+abbrev pub reads_stdin : List Row → Bool
+reads_stdin rows = is_stdin argument.Script rows
+    || (is_stdin argument.New rows || (is_stdin argument.Trace rows || is_stdin argument.Policy rows))
+
+abbrev pub names_path_below : List Row → Result (Option Text) FaultLine
+names_path_below rows =
+    if is_stdin argument.Names rows && reads_stdin rows then Err (of_no_word BadWord)
+    else Ok (word_in argument.Names rows)
+
+-- the path of the names that it asks for; only one input can be standard input
+abbrev pub names_path_in : Option (Text × List Row) → Result (Option Text) FaultLine
+names_path_in None = Ok None
+names_path_in (Some (word, rows)) = names_path_below rows

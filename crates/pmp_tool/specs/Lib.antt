@@ -11,6 +11,7 @@ pub mod Requests
 pub mod CommandAnswers
 pub mod Names
 pub mod NamedAnswers
+pub mod NumberedInputs
 pub mod Harts
 pub mod Runs
 pub mod Words

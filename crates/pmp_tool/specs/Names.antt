@@ -1,28 +1,40 @@
--- The names that a command's rows are to have behind them.
+-- The names that a command's output is to have.
 use Rattle.std.specs.Prelude.{ℕ, List, map, Option, Some, None, option_map}
-use Rattle.pmp_audit.specs.declared.view.View.TheVariants.{Entries, Runs}
+use Rattle.pmp_audit.specs.declared.view.View.TheVariants.{Entries, Picture, Runs}
 use Rattle.pmp_names.specs.declared.named_rows.Columns.{Columns}
 use Rattle.pmp_names.specs.AddressNames.{Named, rows_with_names}
 use Rattle.pmp_names.specs.NameLists.{named}
+use Rattle.pmp_names.specs.NamedPictures.{picture_with_names}
+use Rattle.pmp_tool.specs.declared.naming.Named.TheVariants as output
+use Rattle.pmp_tool.specs.declared.naming.Named.{Named as Output}
 use Rattle.pmp_tool.specs.declared.naming.Naming.{Naming}
 use Rattle.pmp_tool.specs.declared.request.Request.{Request}
 use Rattle.pmp_tool.specs.declared.request.Request.TheVariants as request
 
--- which fields of its rows are the first and the last byte address of a range, counted from 0
-abbrev pub columns_of : Request → Option Columns
-columns_of (request.Show Runs when) = Some (record { first = 0; last = 1 })
-columns_of (request.Show Entries when) = Some (record { first = 2; last = 3 })
-columns_of (request.Diff diff) = Some (record { first = 0; last = 1 })
-columns_of (request.Lint accepted) = Some (record { first = 4; last = 5 })
-columns_of (request.Harts has_locks) = Some (record { first = 0; last = 1 })
-columns_of (request.Policy path pace) = Some (record { first = 3; last = 4 })
-columns_of _ = None
+-- rows whose fields with these numbers, from 0, are the first and the last byte address of a range
+abbrev pub rows_by : (first last : ℕ) → Option Output
+rows_by first last = Some (output.Rows (record { first = first; last = last }))
 
--- names and columns, in plain values
-abbrev pub plain_naming : Option Naming → Option (List Named × Columns)
-plain_naming naming = option_map (λ naming. (map named naming.names.now, naming.columns)) naming
+-- what a request writes, where names are added to it
+abbrev pub output_of : Request → Option Output
+output_of (request.Show Runs when) = rows_by 0 1
+output_of (request.Show Entries when) = rows_by 2 3
+output_of (request.Show Picture when) = Some output.Picture
+output_of (request.Diff diff) = rows_by 0 1
+output_of (request.Lint accepted) = rows_by 4 5
+output_of (request.Harts has_locks) = rows_by 0 1
+output_of (request.Policy path pace) = rows_by 3 4
+output_of _ = None
 
--- rows with these names behind them
-abbrev pub named_by : Option Naming → (rows : List ℕ) → List ℕ
-named_by None rows = rows
-named_by (Some naming) rows = rows_with_names (map named naming.names.now) naming.columns rows
+-- names and the output, in plain values
+abbrev pub plain_naming : Option Naming → Option (List Named × Output)
+plain_naming naming = option_map (λ naming. (map named naming.names.now, naming.output)) naming
+
+abbrev pub named_so : Output → List Named → (text : List ℕ) → List ℕ
+named_so (output.Rows columns) names text = rows_with_names names columns text
+named_so output.Picture names text = picture_with_names names text
+
+-- an output with these names
+abbrev pub named_by : Option Naming → (text : List ℕ) → List ℕ
+named_by None text = text
+named_by (Some naming) text = named_so naming.output (map named naming.names.now) text

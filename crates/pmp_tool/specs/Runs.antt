@@ -27,7 +27,8 @@ use Rattle.pmp_tool.specs.HartImports.{CantMake, Makes, new_folder}
 use Rattle.pmp_tool.specs.Harts.{AreUnfound, IsOfNone, IsOfSome}
 use Rattle.pmp_tool.specs.Inputs.{AreBytesOf, CantBeRead, Folders, Inputs}
 use Rattle.pmp_tool.specs.NamedAnswers.{OneAnswer, OneFails}
-use Rattle.pmp_tool.specs.Names.{columns_of, plain_naming}
+use Rattle.pmp_tool.specs.Names.{output_of, plain_naming}
+use Rattle.pmp_tool.specs.NumberedInputs.{numbered_inputs}
 
 module _ (scripts traces : Inputs) (folders : Folders) (command : Command) (before after : Option (List ℕ)) where
   -- what a command asks for was written: of the hart of its script, or of each hart of a folder
@@ -72,10 +73,14 @@ AreNamesAt traces (Some path) names = (text : List ℕ) × AreBytesOf (traces pa
 abbrev pub IsNamingAt : (path : Option Text) → List Named → Request → Option Naming → Type 0
 IsNamingAt None names request naming = naming ≡ None
 IsNamingAt (Some path) names request naming =
-    plain_naming naming ≡ option_map (λ columns. (names, columns)) (columns_of request)
+    plain_naming naming ≡ option_map (λ output. (names, output)) (output_of request)
 
 module _ (found : Option (Text × List Row)) (scripts traces : Inputs) (folders : Folders) (before after : Option (List ℕ)) where
   module _ (path : Option Text) where
+    -- the traces and policies, with numbers in the places of these names if there is such a text
+    abbrev pub numbered_at : List Named → Inputs
+    numbered_at names = numbered_inputs (option_map (λ at. names) path) traces
+
     -- it asks for this command, where addresses have the names of the text at the path
     pub record AsksFor (command : Command) (naming : Option Naming) : Type 0 where
       pub names : List Named
@@ -88,7 +93,7 @@ module _ (found : Option (Text × List Row)) (scripts traces : Inputs) (folders 
       pub command : Command
       pub naming : Option Naming
       pub asks : AsksFor command naming
-      pub done : Done scripts traces folders command before after naming made outcome
+      pub done : Done scripts (numbered_at asks.names) folders command before after naming made outcome
 
     -- why it isn't
     pub data DoesNotAt : Failure → Type 0 where
@@ -101,14 +106,20 @@ module _ (found : Option (Text × List Row)) (scripts traces : Inputs) (folders 
       refused_word : (names : List Named) (fault : FaultLine) → AreNamesAt traces path names
           → asked_of names found ≡ Err fault → Keeps before after → DoesNotAt (Refused fault)
       -- it asks for something of a script that gets no answer
-      undone : (command : Command) (naming : Option Naming) (failure : Failure) → AsksFor command naming
-          → Undone scripts traces folders command before after naming failure → DoesNotAt failure
+      undone : (command : Command) (naming : Option Naming) (failure : Failure) (asks : AsksFor command naming)
+          → Undone scripts (numbered_at asks.names) folders command before after naming failure → DoesNotAt failure
 
-  abbrev pub Does : (made : Inputs) → Outcome → Type 0
-  Does = DoesAt (names_path_in found)
+  -- that was done, with names where the words ask for some
+  pub record Does (made : Inputs) (outcome : Outcome) : Type 0 where
+    pub path : Option Text
+    pub at : names_path_in found ≡ Ok path
+    pub done : DoesAt path made outcome
 
-  abbrev pub DoesNot : Failure → Type 0
-  DoesNot = DoesNotAt (names_path_in found)
+  pub data DoesNot : Failure → Type 0 where
+    -- two inputs are to be standard input
+    twice : (fault : FaultLine) → names_path_in found ≡ Err fault → Keeps before after → DoesNot (Refused fault)
+    once : (path : Option Text) (failure : Failure) → names_path_in found ≡ Ok path → DoesNotAt path failure
+        → DoesNot failure
 
 -- what the words ask for was written: help or the version, or the answer to a command
 pub data Answers (words : List Text) (scripts traces : Inputs) (folders : Folders) (before after : Option (List ℕ))

@@ -93,6 +93,10 @@ is_used argument rows = is_some (word_in argument rows)
 abbrev pub is_set : Argument → List Row → Bool
 is_set argument rows = option_map_or (λ word. bytes_eq word (codes "true")) (word_in argument rows) false
 
+-- a word is the path of standard input
+abbrev pub is_stdin : Argument → List Row → Bool
+is_stdin argument rows = option_map_or (λ word. bytes_eq word (codes "stdin")) (word_in argument rows) false
+
 -- a word has 14 digits and no `0x`
 abbrev pub is_bare_word : Argument → List Row → Bool
 is_bare_word argument rows = option_map_or is_bare (word_in argument rows) false

@@ -5,7 +5,8 @@ ghost use Rattle.clap.specs.Words.{found_of, rows_of, subcommand_rows_of};
 ghost use Rattle.pmp_tool.specs.Commands.{access_in, access_task, asked, asked_of, audit_in, check_in, command_named};
 ghost use Rattle.pmp_tool.specs.Commands.{diff_in, folder_in, format_in, import_in, long_audit_in, options_in, options_with};
 ghost use Rattle.pmp_names.specs.NameLists.{named};
-ghost use Rattle.pmp_tool.specs.Commands.{names_path_in, path_in, plan_in, plan_of_in, policy_in, second_in, show_in, start_in, task_in};
+ghost use Rattle.pmp_tool.specs.Commands.{names_path_in, path_in, plan_in, plan_of_in, policy_in, reads_stdin, second_in};
+ghost use Rattle.pmp_tool.specs.Commands.{show_in, start_in, task_in};
 ghost use Rattle.pmp_tool.specs.Commands.{task_of, whole_audit_in, why_in};
 ghost use Rattle.pmp_tool.specs.Words.{result_map};
 
@@ -16,7 +17,7 @@ use crate::fault_line::{FaultLine, Place};
 use crate::hart_words::{is_hart_said, read_hart, read_security};
 use crate::jobs::JOBS;
 use crate::request::{Audit, Check, Diff, Import, LongAudit, Plan, Request, Why};
-use crate::word::{Smepmp, Xlen, asked, count, is_bare_word, is_set, is_used, needed, word};
+use crate::word::{Smepmp, Xlen, asked, count, is_bare_word, is_set, is_stdin, is_used, needed, word};
 use clap::ArgMatches;
 use pmp_audit::{AskedChanges, Pace, View};
 use pmp_core::Access;
@@ -51,12 +52,27 @@ fn found<'b, 'a>(matches: &'b ArgMatches<'a>) -> Option<(&'a str, &'b ArgMatches
     matches.subcommand()
 }
 
-/// Returns the path of the names of addresses, if the words ask for names.
-pub fn names_path<'a>(matches: &ArgMatches<'a>) -> Option<&'a str>
-    ensures { option_map (λ path. path.now) result ≡ names_path_in (subcommand_rows_of matches.now) }
+/// Whether the script or the second input is standard input.
+fn reads_stdin(words: &ArgMatches) -> bool
+    ensures { result ≡ reads_stdin (rows_of (found_of words.now)) }
 {
-    let (_, words) = found(matches)?;
-    word(words, Argument::Names)
+    is_stdin(words, Argument::Script)
+        || is_stdin(words, Argument::New)
+        || is_stdin(words, Argument::Trace)
+        || is_stdin(words, Argument::Policy)
+}
+
+/// Returns the path of the names of addresses, if the words ask for names. Only one input can be standard input.
+pub fn names_path<'a>(matches: &ArgMatches<'a>) -> Result<Option<&'a str>, FaultLine>
+    ensures { result_map (option_map (λ path. path.now)) result ≡ names_path_in (subcommand_rows_of matches.now) }
+{
+    let Some((_, words)) = found(matches) else {
+        return Ok(None);
+    };
+    if is_stdin(words, Argument::Names) && reads_stdin(words) {
+        return Err(FaultLine::from(Refusal::BadWord));
+    }
+    Ok(word(words, Argument::Names))
 }
 
 /// Returns the request of the subcommand that `clap` found in the words, given these names of addresses.
@@ -191,7 +207,7 @@ fn read_whole_audit<'a>(words: &ArgMatches, trace: &'a str) -> Result<Request<'a
 fn read_long_audit<'a>(words: &ArgMatches, trace: &'a str) -> Result<Request<'a>, FaultLine>
     ensures { result_map task_of result ≡ long_audit_in trace.now (rows_of (found_of words.now)) }
 {
-    if is_used(words, Argument::Checkers) {
+    if is_used(words, Argument::Checkers) || is_used(words, Argument::Names) {
         return Err(FaultLine::from(Refusal::BadWord));
     }
     let jobs = count(words, Argument::Jobs, u64::from(JOBS))?;

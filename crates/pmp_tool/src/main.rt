@@ -23,6 +23,7 @@ mod jobs;
 mod kept;
 mod naming;
 mod note;
+mod numbered_inputs;
 mod outcome;
 mod plan_answers;
 mod progress;

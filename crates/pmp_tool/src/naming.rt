@@ -1,32 +1,41 @@
-//! The names that are added after a command's rows.
+//! The names that are added to a command's output.
 
 ghost use Rattle.std.specs.Prelude.{◌≡◌, IfOk, map, option_map};
 ghost use Rattle.pmp_names.specs.NameLists.{named};
-ghost use Rattle.pmp_tool.specs.Names.{columns_of, named_by, plain_naming};
+ghost use Rattle.pmp_tool.specs.Names.{named_by, output_of, plain_naming};
 
 use crate::request::Request;
 use pmp_audit::View;
-use pmp_names::{AddressName, Columns, append_named};
+use pmp_names::{AddressName, Columns, append_named, append_named_picture};
 use std::alloc::{AllocError, Global};
 
-/// Names of addresses, and the fields of a command's rows that are addresses.
+/// The output that names are added to.
+#[derive(Clone, Copy)]
+pub enum Named {
+    /// Rows, of which these fields are addresses.
+    Rows(Columns),
+    Picture,
+}
+
+/// Names of addresses, and the output that they are added to.
 #[derive(Clone, Copy)]
 pub struct Naming<'a> {
     pub names: &'a [AddressName<'a>],
-    pub columns: Columns,
+    pub output: Named,
 }
 
-/// Returns which fields of its rows are addresses.
-fn columns_of(request: Request<'_>) -> Option<Columns>
-    ensures { result ≡ columns_of request.entry }
+/// Returns what its output is, if names are added to it.
+fn output_of(request: Request<'_>) -> Option<Named>
+    ensures { result ≡ output_of request.entry }
 {
     match request {
         Request::Show(View::Runs, _) | Request::Diff(_) | Request::Harts(_) => {
-            Some(Columns { first: 0, last: 1 })
+            Some(Named::Rows(Columns { first: 0, last: 1 }))
         }
-        Request::Show(View::Entries, _) => Some(Columns { first: 2, last: 3 }),
-        Request::Policy(..) => Some(Columns { first: 3, last: 4 }),
-        Request::Lint(_) => Some(Columns { first: 4, last: 5 }),
+        Request::Show(View::Entries, _) => Some(Named::Rows(Columns { first: 2, last: 3 })),
+        Request::Show(View::Picture, _) => Some(Named::Picture),
+        Request::Policy(..) => Some(Named::Rows(Columns { first: 3, last: 4 })),
+        Request::Lint(_) => Some(Named::Rows(Columns { first: 4, last: 5 })),
         _ => None,
     }
 }
@@ -34,17 +43,17 @@ fn columns_of(request: Request<'_>) -> Option<Columns>
 impl<'a> Naming<'a> {
     /// Returns these names, for the rows of a request.
     pub fn of(names: &'a [AddressName<'a>], request: Request<'_>) -> Option<Naming<'a>>
-        ensures { plain_naming result ≡ option_map (λ columns. (map named names.now, columns))
-            (columns_of request.entry) }
+        ensures { plain_naming result ≡ option_map (λ output. (map named names.now, output))
+            (output_of request.entry) }
     {
-        match columns_of(request) {
-            Some(columns) => Some(Naming { names, columns }),
+        match output_of(request) {
+            Some(output) => Some(Naming { names, output }),
             None => None,
         }
     }
 }
 
-/// Returns the rows with names after them, if they are to have some.
+/// Returns the rows with names after them, or a picture with names, if it is to have some.
 pub fn with_names(
     alloc: Global,
     naming: Option<Naming<'_>>,
@@ -56,6 +65,9 @@ pub fn with_names(
         return Ok(rows);
     };
     let mut all = Vec::new(alloc);
-    append_named(&mut all, naming.names, naming.columns, &rows)?;
+    match naming.output {
+        Named::Rows(columns) => append_named(&mut all, naming.names, columns, &rows)?,
+        Named::Picture => append_named_picture(&mut all, naming.names, &rows)?,
+    }
     Ok(all)
 }

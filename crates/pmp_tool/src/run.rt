@@ -25,6 +25,7 @@ use crate::harts::Harts;
 use crate::inputs::Inputs;
 use crate::naming::Naming;
 use crate::note::tell_note;
+use crate::numbered_inputs::NumberedInputs;
 use crate::outcome::Outcome;
 use clap::ArgMatches;
 use pmp_names::read_names;
@@ -116,7 +117,7 @@ fn answer_words<R: Threads + Wait + Sync, I: Inputs, O: Write>(
     ensures err { IfErr result (DoesNot (subcommand_rows_of matches.now) (I.scripts inputs.old) (I.traces inputs.old)
         (I.folders inputs.old) (O.contents out.old) (O.contents out.new)) }
 {
-    match names_path(matches) {
+    match names_path(matches)? {
         None => answer_without(rt, alloc, matches, inputs, out),
         Some(path) => answer_with(rt, alloc, matches, path, inputs, out),
     }
@@ -136,7 +137,12 @@ fn answer_without<R: Threads + Wait + Sync, I: Inputs, O: Write>(
         (I.folders inputs.old) (O.contents out.old) (O.contents out.new) None) }
 {
     let command = read_command(matches, &[])?;
-    answer_all(rt, alloc, command, None, inputs, out)
+    let mut numbered = NumberedInputs {
+        alloc,
+        inputs,
+        names: None,
+    };
+    answer_all(rt, alloc, command, None, &mut numbered, out)
 }
 
 /// Answers it with the names of addresses in the text at this path.
@@ -158,7 +164,12 @@ fn answer_with<R: Threads + Wait + Sync, I: Inputs, O: Write>(
     inputs.forget();
     let command = read_command(matches, &names)?;
     let naming = Naming::of(&names, command.request);
-    answer_all(rt, alloc, command, naming, inputs, out)
+    let mut numbered = NumberedInputs {
+        alloc,
+        inputs,
+        names: Some(&names),
+    };
+    answer_all(rt, alloc, command, naming, &mut numbered, out)
 }
 
 /// Answers a command.

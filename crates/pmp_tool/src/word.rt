@@ -9,7 +9,7 @@ ghost use Rattle.pmp_text.specs.AccessWords.{kind_named, mode_named};
 ghost use Rattle.pmp_text.specs.Moments.{when_said};
 ghost use Rattle.pmp_text.specs.Numbers.{word_number};
 ghost use Rattle.pmp_tool.specs.Words.{byte_named, expected_named, grain_named, only_named, place_of, smepmp_named, xlen_named};
-ghost use Rattle.pmp_tool.specs.Words.{asked_in, bad_word, count_in, is_bare_word, is_set, is_used, needed_in};
+ghost use Rattle.pmp_tool.specs.Words.{asked_in, bad_word, count_in, is_bare_word, is_set, is_stdin, is_used, needed_in};
 ghost use Rattle.pmp_tool.specs.Words.{word_in};
 
 use crate::argument::Argument;
@@ -224,6 +224,13 @@ pub fn asked<T: Form>(words: &ArgMatches, argument: Argument) -> Result<Option<T
         Some(word) => Ok(Some(T::read(word).ok_or(FaultLine::of_word(argument))?)),
         None => Ok(None),
     }
+}
+
+/// Whether a word is the path of standard input.
+pub fn is_stdin(words: &ArgMatches, argument: Argument) -> bool
+    ensures { result ≡ is_stdin argument (rows_of (found_of words.now)) }
+{
+    word(words, argument).is_some_and(|word| word == "stdin")
 }
 
 /// Returns what a word says that its command requires.

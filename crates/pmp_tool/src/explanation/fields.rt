@@ -7,7 +7,7 @@ const TRACE: [&str; 5] = [
     "after: a number of publications, or with pmp 3 last, last-N or a name of the script's",
     "mode: M, S or U",
     "kind: fetch, load or store",
-    "start: a byte address, in decimal or with 0x",
+    "start: a byte address, in decimal or with 0x, or with --names NAME or NAME+OFFSET",
     "length: a number of bytes",
 ];
 
@@ -17,8 +17,8 @@ const POLICY: [&str; 9] = [
     "to: a number of publications that isn't below from, or nothing for all, or with pmp 3 last, last-N, mml, mmwp or rlb-clear",
     "modes: one or more of the letters M, S and U, each once",
     "kind: fetch, load, store or any",
-    "first: a byte address, in decimal or with 0x",
-    "last: a byte address that isn't below first, in decimal or with 0x",
+    "first: a byte address, in decimal or with 0x, or with --names NAME or NAME+OFFSET",
+    "last: a byte address that isn't below first, in decimal or with 0x, or with --names NAME or NAME+OFFSET",
     "demand: never, always or held",
     "name: any text without control bytes, or nothing",
     "comment: any text without control bytes, or nothing",
