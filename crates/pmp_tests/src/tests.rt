@@ -1,0 +1,37 @@
+//! Tests of the libraries' public calls: what no contract says, and what neither a row of text nor a call from C shows.
+//! One that fails ends the program.
+
+mod auditing;
+mod cuts;
+mod inputs;
+mod outputs;
+mod rows;
+mod sharing;
+mod using;
+mod values;
+
+use auditing::{workers_overlap, workers_take_turns};
+use cuts::{cuts_show_nowhere, order_goes_over_cuts};
+use inputs::{longer_texts_are_too_long, takes_no_more_than_it_needs};
+use outputs::writes_a_beginning;
+use rows::{the_longest_entry_row_has_room, the_longest_report_row_has_room};
+use sharing::test_sharing;
+use using::{one_thread_decides, the_other_hart_learns};
+use values::defaults_refuse;
+
+/// Runs all tests.
+pub fn run_tests(rt: HostRuntime) {
+    defaults_refuse(rt);
+    the_longest_report_row_has_room(rt);
+    the_longest_entry_row_has_room(rt);
+    takes_no_more_than_it_needs(rt);
+    longer_texts_are_too_long(rt);
+    writes_a_beginning(rt);
+    cuts_show_nowhere(rt);
+    order_goes_over_cuts(rt);
+    workers_overlap(rt);
+    workers_take_turns(rt);
+    test_sharing(rt);
+    one_thread_decides(rt);
+    the_other_hart_learns(rt);
+}
