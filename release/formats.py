@@ -17,7 +17,7 @@ def text_of(path):
 
 def refusals(text=None):
     """By number, in their order: the name, what was wanted, what to do, and the exit status."""
-    text = text or text_of(REFUSALS)
+    text = re.sub(r"\\\n *", "", text or text_of(REFUSALS))
     numbers = {name: int(number) for name, number in re.findall(r"^    (\w+) = (\d+),$", text, re.MULTILINE)}
     texts = [dict(re.findall(r'Refusal::(\w+) =>\s*"([^"]*)",', it)) for it in text.split("-> &'static str")[1:]]
     third = re.findall(r"Refusal::(\w+)", "".join(re.findall(r"^.* => 3,$", text, re.MULTILINE)))

@@ -179,27 +179,37 @@ impl Refusal {
             Refusal::BadLength => "a length from 1 to 4096",
             Refusal::PastEnd => "a last byte below 2^56",
             Refusal::BadVersion =>
-                "pmp 1 for a unit of 16 entries, pmp 2 for one of 64, or pmp 3 for any hart, before every line but comments",
+                "pmp 1 for a unit of 16 entries, pmp 2 for one of 64, or pmp 3 for any hart, before every line but \
+                comments",
             Refusal::BadLine =>
-                "write NAME VALUE, reset or publish; with pmp 3 also set, expect, set-bits or clear-bits NAME VALUE, entry I off, entry I with na4, napot or tor, FIRST, SIZE or END, RIGHTS and perhaps L, mark NAME, publish NAME, and hart with xlen 32 or 64, entries N, grain BYTES, bits N or smepmp yes or no",
+                "write NAME VALUE, reset or publish; with pmp 3 also set, expect, set-bits or clear-bits NAME \
+                VALUE, entry I off, entry I with na4, napot or tor, FIRST, SIZE or END, RIGHTS and perhaps L, mark \
+                NAME, publish NAME, and hart with xlen 32 or 64, entries N, grain BYTES, bits N or smepmp yes or \
+                no",
             Refusal::BadName =>
-                "mseccfg, pmpcfg0, pmpcfg2, .. pmpcfg14, pmpaddr0 to pmpaddr63, or the register's number after 0x; with hart xlen 32 also mseccfgh and the odd pmpcfg",
+                "mseccfg, pmpcfg0, pmpcfg2, .. pmpcfg14, pmpaddr0 to pmpaddr63, or the register's number after 0x; \
+                with hart xlen 32 also mseccfgh and the odd pmpcfg",
             Refusal::OddCfg =>
-                "a pmpcfg register with an even number, since RV64 has no odd ones; RV32 has, with pmp 3 and hart xlen 32",
+                "a pmpcfg register with an even number, since RV64 has no odd ones; RV32 has, with pmp 3 and hart \
+                xlen 32",
             Refusal::BadNumber =>
-                "a number below 2^64, in a write with hart xlen 32 below 2^32: 1 to 20 decimal digits, or 0x and 1 to 16 hexadecimal digits",
+                "a number below 2^64, in a write with hart xlen 32 below 2^32: 1 to 20 decimal digits, or 0x and 1 \
+                to 16 hexadecimal digits",
             Refusal::BatchFull => "at most 64 writes and resets before a publish",
             Refusal::Unpublished => "a publish after this event",
             Refusal::TooLong =>
-                "at most 1048576 bytes of a script, 67108864 with pmp 3, and 16777216 of a trace or a policy; of a long trace, shorter lines",
+                "at most 1048576 bytes of a script, 67108864 with pmp 3, and 16777216 of a trace or a policy; of a \
+                long trace, shorter lines",
             Refusal::BadHeader =>
-                "after,mode,kind,start,length for a trace, from,to,modes,kind,first,last,demand for a policy, or that between name and comment",
+                "after,mode,kind,start,length for a trace, from,to,modes,kind,first,last,demand for a policy, or \
+                that between name and comment, first,last,name for names, first,last,m,su,locked,name for a plan",
             Refusal::BadRow =>
                 "as many fields as the header names, each of its form: see pmp help trace and pmp help policy",
             Refusal::BadAfter => "at most as many publications as the script has",
             Refusal::Order => "at least as many publications as in the row before",
             Refusal::BadWord =>
-                "words as the command's help has them: stdin for one input alone, --jobs and --first-row with --long, --checkers without",
+                "words as the command's help has them: stdin for one input alone, --jobs and --first-row with \
+                --long, --checkers and an audit's --names without it, plan --of alone",
             Refusal::NoPlace => "a place for each checker in the unit that they share",
             Refusal::Full => "room for a batch in the unit",
             Refusal::Moved => "no more publications than a checker was told of",
@@ -220,17 +230,21 @@ impl Refusal {
             Refusal::NoMoment =>
                 "a moment that the script has: a name from mark or publish, or last, mml and the like, if it occurs",
             Refusal::BadEntry =>
-                "an entry 0 to 63 and a range that it can have here: na4 4 bytes, napot a power of two of 8 or more, each at a multiple of its size, tor from where the entry before it ends to a higher multiple of 4; all below 2^56, with hart xlen 32 below 2^34",
+                "an entry 0 to 63 and a range that it can have here: na4 4 bytes, napot a power of two of 8 or \
+                more, each at a multiple of its size, tor from where the entry before it ends to a higher multiple \
+                of 4; all below 2^56, with hart xlen 32 below 2^34",
             Refusal::BadEvent =>
                 "each line that names a PMP register or one of its events in the form of its log: see pmp help import",
             Refusal::NoHart => "a log with a write or a register of the hart",
             Refusal::BadFormat => "qemu, gdb, openocd, spike or dump",
             Refusal::TooMany => "at most 1048576 events and as many publications",
             Refusal::BadFolder =>
-                "1 to 4096 scripts in the folder, each NAME.pmp of at most 255 letters, digits, - _ and .; in two folders the same names",
+                "1 to 4096 scripts in the folder, each NAME.pmp of at most 255 letters, digits, - _ and .; in two \
+                folders the same names",
             Refusal::Overlap => "rows that have no byte in common",
             Refusal::BadPair =>
-                "rights of M and of S and U that one entry gives, with the MML asked for; of a locked row, one whose lock holds",
+                "rights of M and of S and U that one entry gives, with the MML asked for; of a locked row, one \
+                whose lock holds",
             Refusal::TooFine => "rows that begin and end between two grains of the hart",
             Refusal::FewEntries => "a plan for the entries that the hart has",
             Refusal::Stopped => "a plan whose entries are found within the bound of the search",
@@ -243,19 +257,24 @@ impl Refusal {
             Refusal::BadLength => "give at least one byte; make several accesses of a longer range",
             Refusal::PastEnd => "look for a digit too many in the address",
             Refusal::BadVersion =>
-                "make it the first line, in lower case and with no other word; save the script as UTF-8 without a byte-order mark, each line ended by LF",
+                "make it the first line, in lower case and with no other word; save the script as UTF-8 without a \
+                byte-order mark, each line ended by LF",
             Refusal::BadLine =>
-                "write each CSR write as write NAME VALUE, without =; begin with pmp 3 for hart, set, expect, mark, set-bits, clear-bits and entry; begin comments with #, on lines of their own",
+                "write each CSR write as write NAME VALUE, without =; begin with pmp 3 for hart, set, expect, \
+                mark, set-bits, clear-bits and entry; begin comments with #, on lines of their own",
             Refusal::BadName =>
                 "write it so, in lower case and without leading zeros; leave out writes to other registers",
             Refusal::OddCfg =>
-                "write both halves to the even one before it; for RV32 firmware begin with pmp 3 and hart xlen 32, above every write",
+                "write both halves to the even one before it; for RV32 firmware begin with pmp 3 and hart xlen 32, \
+                above every write",
             Refusal::BadNumber =>
-                "put 0x before hexadecimal digits and nothing after them; leave out signs and underscores: a register's -1 is 0xffffffffffffffff, on RV32 0xffffffff",
+                "put 0x before hexadecimal digits and nothing after them; leave out signs and underscores: a \
+                register's -1 is 0xffffffffffffffff, on RV32 0xffffffff",
             Refusal::BatchFull => "put a publish between them",
             Refusal::Unpublished => "end the script with a publish",
             Refusal::TooLong =>
-                "cut the script at a publish and leave comments out; take --long for a trace, and shorter lines there; split a policy",
+                "cut the script at a publish and leave comments out; take --long for a trace, and shorter lines \
+                there; split a policy",
             Refusal::BadHeader => "make it the first line, above the rows, without blanks",
             Refusal::BadRow =>
                 "write each field in its form and between commas, and nothing else: no blank, comment or line end",
@@ -274,14 +293,17 @@ impl Refusal {
                 "give the number of PMP entries of the hart, counted from pmpaddr0",
             Refusal::BadBits => "give the bits of a physical address, not those of a register",
             Refusal::NotHeld =>
-                "describe the hart that had the value by hart lines; clear the bits that no hart keeps, as 63 to 54 of a pmpaddr, which QEMU before 11 keeps",
+                "describe the hart that had the value by hart lines, or by options of plan; clear the bits that no \
+                hart keeps, as 63 to 54 of a pmpaddr, which QEMU before 11 keeps",
             Refusal::BadGrain => "give the grain in bytes, not the manual's G",
             Refusal::BadMark => "give the moment another name",
             Refusal::OpenMark => "put it after the publish, or name that, as in publish NAME",
             Refusal::NoMoment =>
-                "look for the script's mark lines and publish lines with a name; pmp writes says when MML, MMWP and RLB change",
+                "look for the script's mark lines and publish lines with a name; pmp writes says when MML, MMWP \
+                and RLB change",
             Refusal::BadEntry =>
-                "write the entry before it first, whose address a tor entry begins at, or take napot or na4; give sizes in bytes",
+                "write the entry before it first, whose address a tor entry begins at, or take napot or na4; give \
+                sizes in bytes",
             Refusal::BadEvent =>
                 "check that the format is the log's; leave out lines that are cut short",
             Refusal::NoHart =>

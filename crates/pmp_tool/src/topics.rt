@@ -246,15 +246,17 @@ for each row of the trace, in order.
           every byte, split if it doesn't, none if no entry matches any byte
   ENTRY   that entry's number, empty for none
 
-With `--names FILE`, `check` and `why` take a name as START, or NAME`+`OFFSET, a
-number of bytes after its first byte. `policy`, `map`, `entries`, `lint`, `diff`
-and `harts` write after each row a comma and the names of its bytes, from FIRST
-to LAST, in FILE's order and with blanks between: NAME if the range has all
-bytes of the name, NAME`+0x`OFFSET if only a part, OFFSET bytes into it. FILE
-has the line `first,last,name`, and then one for each name, as
-`0x80000000,0x8003ffff,firmware` and `0x10000000,0x10000fff,uart`: the byte
-address of the first byte; that of the last, not below; and the name, 1 to 64
-printable bytes without blank, `\"`, `+` and `,`, the first one no digit.
+With `--names FILE`, an address may be a name or NAME`+`OFFSET, a number of
+bytes after its first byte: START of `check` and `why`, `start` of a trace
+(without `--long`), `first` and `last` of a policy. NAME is its first byte, and
+as `last` its last one. `policy`, `map`, `entries`, `lint`, `diff` and `harts`
+write after each row a comma and the names of its bytes, from FIRST to LAST, in
+FILE's order and with blanks between: NAME if the range has all bytes of the
+name, NAME`+0x`OFFSET if only a part, OFFSET bytes into it. `picture` has them
+as a last column. FILE has the line `first,last,name`, and then one for each
+name, as `0x80000000,0x8003ffff,firmware` and `0x10000000,0x10000fff,uart`: the
+byte address of the first byte; that of the last, not below; and the name, 1 to
+64 printable bytes without blank, `\"`, `+` and `,`, the first one no digit.
 
 Exit status:
   0  the answer is allow, or the one that --expect names
@@ -313,15 +315,17 @@ for each row of the trace, in order.
           every byte, split if it doesn't, none if no entry matches any byte
   ENTRY   that entry's number, empty for none
 
-With `--names FILE`, `check` and `why` take a name as START, or NAME`+`OFFSET, a
-number of bytes after its first byte. `policy`, `map`, `entries`, `lint`, `diff`
-and `harts` write after each row a comma and the names of its bytes, from FIRST
-to LAST, in FILE's order and with blanks between: NAME if the range has all
-bytes of the name, NAME`+0x`OFFSET if only a part, OFFSET bytes into it. FILE
-has the line `first,last,name`, and then one for each name, as
-`0x80000000,0x8003ffff,firmware` and `0x10000000,0x10000fff,uart`: the byte
-address of the first byte; that of the last, not below; and the name, 1 to 64
-printable bytes without blank, `\"`, `+` and `,`, the first one no digit.
+With `--names FILE`, an address may be a name or NAME`+`OFFSET, a number of
+bytes after its first byte: START of `check` and `why`, `start` of a trace
+(without `--long`), `first` and `last` of a policy. NAME is its first byte, and
+as `last` its last one. `policy`, `map`, `entries`, `lint`, `diff` and `harts`
+write after each row a comma and the names of its bytes, from FIRST to LAST, in
+FILE's order and with blanks between: NAME if the range has all bytes of the
+name, NAME`+0x`OFFSET if only a part, OFFSET bytes into it. `picture` has them
+as a last column. FILE has the line `first,last,name`, and then one for each
+name, as `0x80000000,0x8003ffff,firmware` and `0x10000000,0x10000fff,uart`: the
+byte address of the first byte; that of the last, not below; and the name, 1 to
+64 printable bytes without blank, `\"`, `+` and `,`, the first one no digit.
 
 Exit status:
   0  the access is allowed
@@ -445,15 +449,17 @@ address, or `N,unmet,,,,`; then, if the header has them, `,NAME,COMMENT`.
   NAME, COMMENT  the row's, as fields of CSV: in quotes if they have a comma or
                  a quote, and then with \"\" for a quote
 
-With `--names FILE`, `check` and `why` take a name as START, or NAME`+`OFFSET, a
-number of bytes after its first byte. `policy`, `map`, `entries`, `lint`, `diff`
-and `harts` write after each row a comma and the names of its bytes, from FIRST
-to LAST, in FILE's order and with blanks between: NAME if the range has all
-bytes of the name, NAME`+0x`OFFSET if only a part, OFFSET bytes into it. FILE
-has the line `first,last,name`, and then one for each name, as
-`0x80000000,0x8003ffff,firmware` and `0x10000000,0x10000fff,uart`: the byte
-address of the first byte; that of the last, not below; and the name, 1 to 64
-printable bytes without blank, `\"`, `+` and `,`, the first one no digit.
+With `--names FILE`, an address may be a name or NAME`+`OFFSET, a number of
+bytes after its first byte: START of `check` and `why`, `start` of a trace
+(without `--long`), `first` and `last` of a policy. NAME is its first byte, and
+as `last` its last one. `policy`, `map`, `entries`, `lint`, `diff` and `harts`
+write after each row a comma and the names of its bytes, from FIRST to LAST, in
+FILE's order and with blanks between: NAME if the range has all bytes of the
+name, NAME`+0x`OFFSET if only a part, OFFSET bytes into it. `picture` has them
+as a last column. FILE has the line `first,last,name`, and then one for each
+name, as `0x80000000,0x8003ffff,firmware` and `0x10000000,0x10000fff,uart`: the
+byte address of the first byte; that of the last, not below; and the name, 1 to
+64 printable bytes without blank, `\"`, `+` and `,`, the first one no digit.
 
 Exit status:
   0  every row, if there are any, holds, or is unmet with if-any
@@ -509,15 +515,17 @@ An access within one run is decided by its rights. One across runs is denied,
 `split` by its lowest-numbered owner. The runs cover byte 0 to byte 2^56 - 1,
 and neighbours have different owners: at most 33 with 16 entries, 129 with 64.
 
-With `--names FILE`, `check` and `why` take a name as START, or NAME`+`OFFSET, a
-number of bytes after its first byte. `policy`, `map`, `entries`, `lint`, `diff`
-and `harts` write after each row a comma and the names of its bytes, from FIRST
-to LAST, in FILE's order and with blanks between: NAME if the range has all
-bytes of the name, NAME`+0x`OFFSET if only a part, OFFSET bytes into it. FILE
-has the line `first,last,name`, and then one for each name, as
-`0x80000000,0x8003ffff,firmware` and `0x10000000,0x10000fff,uart`: the byte
-address of the first byte; that of the last, not below; and the name, 1 to 64
-printable bytes without blank, `\"`, `+` and `,`, the first one no digit.
+With `--names FILE`, an address may be a name or NAME`+`OFFSET, a number of
+bytes after its first byte: START of `check` and `why`, `start` of a trace
+(without `--long`), `first` and `last` of a policy. NAME is its first byte, and
+as `last` its last one. `policy`, `map`, `entries`, `lint`, `diff` and `harts`
+write after each row a comma and the names of its bytes, from FIRST to LAST, in
+FILE's order and with blanks between: NAME if the range has all bytes of the
+name, NAME`+0x`OFFSET if only a part, OFFSET bytes into it. `picture` has them
+as a last column. FILE has the line `first,last,name`, and then one for each
+name, as `0x80000000,0x8003ffff,firmware` and `0x10000000,0x10000fff,uart`: the
+byte address of the first byte; that of the last, not below; and the name, 1 to
+64 printable bytes without blank, `\"`, `+` and `,`, the first one no digit.
 
 Exit status:
   0  the answer is written
@@ -593,15 +601,17 @@ reset, no write allows what the entry denies, and none denies what it allows
 while MML doesn't change. If an entry is frozen and HOLDS is empty, one before
 it isn't frozen, and may be able to take its bytes.
 
-With `--names FILE`, `check` and `why` take a name as START, or NAME`+`OFFSET, a
-number of bytes after its first byte. `policy`, `map`, `entries`, `lint`, `diff`
-and `harts` write after each row a comma and the names of its bytes, from FIRST
-to LAST, in FILE's order and with blanks between: NAME if the range has all
-bytes of the name, NAME`+0x`OFFSET if only a part, OFFSET bytes into it. FILE
-has the line `first,last,name`, and then one for each name, as
-`0x80000000,0x8003ffff,firmware` and `0x10000000,0x10000fff,uart`: the byte
-address of the first byte; that of the last, not below; and the name, 1 to 64
-printable bytes without blank, `\"`, `+` and `,`, the first one no digit.
+With `--names FILE`, an address may be a name or NAME`+`OFFSET, a number of
+bytes after its first byte: START of `check` and `why`, `start` of a trace
+(without `--long`), `first` and `last` of a policy. NAME is its first byte, and
+as `last` its last one. `policy`, `map`, `entries`, `lint`, `diff` and `harts`
+write after each row a comma and the names of its bytes, from FIRST to LAST, in
+FILE's order and with blanks between: NAME if the range has all bytes of the
+name, NAME`+0x`OFFSET if only a part, OFFSET bytes into it. `picture` has them
+as a last column. FILE has the line `first,last,name`, and then one for each
+name, as `0x80000000,0x8003ffff,firmware` and `0x10000000,0x10000fff,uart`: the
+byte address of the first byte; that of the last, not below; and the name, 1 to
+64 printable bytes without blank, `\"`, `+` and `,`, the first one no digit.
 
 Exit status:
   0  the answer is written
@@ -716,15 +726,17 @@ at LINE.
   MODES        the letters of the modes, M, SU or MSU, for 5 and 6; otherwise
                empty
 
-With `--names FILE`, `check` and `why` take a name as START, or NAME`+`OFFSET, a
-number of bytes after its first byte. `policy`, `map`, `entries`, `lint`, `diff`
-and `harts` write after each row a comma and the names of its bytes, from FIRST
-to LAST, in FILE's order and with blanks between: NAME if the range has all
-bytes of the name, NAME`+0x`OFFSET if only a part, OFFSET bytes into it. FILE
-has the line `first,last,name`, and then one for each name, as
-`0x80000000,0x8003ffff,firmware` and `0x10000000,0x10000fff,uart`: the byte
-address of the first byte; that of the last, not below; and the name, 1 to 64
-printable bytes without blank, `\"`, `+` and `,`, the first one no digit.
+With `--names FILE`, an address may be a name or NAME`+`OFFSET, a number of
+bytes after its first byte: START of `check` and `why`, `start` of a trace
+(without `--long`), `first` and `last` of a policy. NAME is its first byte, and
+as `last` its last one. `policy`, `map`, `entries`, `lint`, `diff` and `harts`
+write after each row a comma and the names of its bytes, from FIRST to LAST, in
+FILE's order and with blanks between: NAME if the range has all bytes of the
+name, NAME`+0x`OFFSET if only a part, OFFSET bytes into it. `picture` has them
+as a last column. FILE has the line `first,last,name`, and then one for each
+name, as `0x80000000,0x8003ffff,firmware` and `0x10000000,0x10000fff,uart`: the
+byte address of the first byte; that of the last, not below; and the name, 1 to
+64 printable bytes without blank, `\"`, `+` and `,`, the first one no digit.
 
 Exit status:
   0  there is no row to write
@@ -765,15 +777,17 @@ longest ranges of bytes whose lock differs. `--only` keeps them all.
   bypassed  its owner's L is 1 while RLB is 1
   -         its owner's L is 0, or no entry owns it and some entry isn't frozen
 
-With `--names FILE`, `check` and `why` take a name as START, or NAME`+`OFFSET, a
-number of bytes after its first byte. `policy`, `map`, `entries`, `lint`, `diff`
-and `harts` write after each row a comma and the names of its bytes, from FIRST
-to LAST, in FILE's order and with blanks between: NAME if the range has all
-bytes of the name, NAME`+0x`OFFSET if only a part, OFFSET bytes into it. FILE
-has the line `first,last,name`, and then one for each name, as
-`0x80000000,0x8003ffff,firmware` and `0x10000000,0x10000fff,uart`: the byte
-address of the first byte; that of the last, not below; and the name, 1 to 64
-printable bytes without blank, `\"`, `+` and `,`, the first one no digit.
+With `--names FILE`, an address may be a name or NAME`+`OFFSET, a number of
+bytes after its first byte: START of `check` and `why`, `start` of a trace
+(without `--long`), `first` and `last` of a policy. NAME is its first byte, and
+as `last` its last one. `policy`, `map`, `entries`, `lint`, `diff` and `harts`
+write after each row a comma and the names of its bytes, from FIRST to LAST, in
+FILE's order and with blanks between: NAME if the range has all bytes of the
+name, NAME`+0x`OFFSET if only a part, OFFSET bytes into it. `picture` has them
+as a last column. FILE has the line `first,last,name`, and then one for each
+name, as `0x80000000,0x8003ffff,firmware` and `0x10000000,0x10000fff,uart`: the
+byte address of the first byte; that of the last, not below; and the name, 1 to
+64 printable bytes without blank, `\"`, `+` and `,`, the first one no digit.
 
 Exit status:
   0  there is no row to write
@@ -827,15 +841,17 @@ longest ranges of bytes whose lock differs. `--only` keeps them all.
   bypassed  its owner's L is 1 while RLB is 1
   -         its owner's L is 0, or no entry owns it and some entry isn't frozen
 
-With `--names FILE`, `check` and `why` take a name as START, or NAME`+`OFFSET, a
-number of bytes after its first byte. `policy`, `map`, `entries`, `lint`, `diff`
-and `harts` write after each row a comma and the names of its bytes, from FIRST
-to LAST, in FILE's order and with blanks between: NAME if the range has all
-bytes of the name, NAME`+0x`OFFSET if only a part, OFFSET bytes into it. FILE
-has the line `first,last,name`, and then one for each name, as
-`0x80000000,0x8003ffff,firmware` and `0x10000000,0x10000fff,uart`: the byte
-address of the first byte; that of the last, not below; and the name, 1 to 64
-printable bytes without blank, `\"`, `+` and `,`, the first one no digit.
+With `--names FILE`, an address may be a name or NAME`+`OFFSET, a number of
+bytes after its first byte: START of `check` and `why`, `start` of a trace
+(without `--long`), `first` and `last` of a policy. NAME is its first byte, and
+as `last` its last one. `policy`, `map`, `entries`, `lint`, `diff` and `harts`
+write after each row a comma and the names of its bytes, from FIRST to LAST, in
+FILE's order and with blanks between: NAME if the range has all bytes of the
+name, NAME`+0x`OFFSET if only a part, OFFSET bytes into it. `picture` has them
+as a last column. FILE has the line `first,last,name`, and then one for each
+name, as `0x80000000,0x8003ffff,firmware` and `0x10000000,0x10000fff,uart`: the
+byte address of the first byte; that of the last, not below; and the name, 1 to
+64 printable bytes without blank, `\"`, `+` and `,`, the first one no digit.
 
 Exit status:
   0  there is no row to write
