@@ -1,18 +1,21 @@
 -- The text of a picture of a register file's runs, an SVG document.
 use Rattle.std.specs.Prelude.{◌≡◌, ℕ, ◌+◌, ◌-◌, ◌*◌, ◌/◌, ◌%◌, ◌^◌, ◌==◌, Bool, List, [], ◌∷◌, ◌++◌, length, Option}
-use Rattle.std.specs.Prelude.{Some, None, if◌then◌else◌, codes, decimal}
+use Rattle.std.specs.Prelude.{true, false, Some, None, if◌then◌else◌, codes, decimal}
 use Rattle.std.specs.List.{enumerate_from, flat_map}
 use Rattle.pmp_core.specs.declared.access.Mode.TheVariants.{M, U}
 use Rattle.pmp_core.specs.declared.access.TheConstants.{ADDRESS_LIMIT}
 use Rattle.pmp_core.specs.declared.mseccfg.MseccfgFields.{MseccfgFields}
-use Rattle.pmp_core.specs.RegisterFile.{RegisterFile, is_frozen, is_held}
+use Rattle.pmp_core.specs.Lock.{lock_of}
+use Rattle.pmp_core.specs.RegisterFile.{RegisterFile, is_held}
+use Rattle.pmp_core.specs.declared.lock.Lock.{Lock}
+use Rattle.pmp_core.specs.declared.lock.Lock.TheVariants.{Bypassed, Frozen, Open}
 use Rattle.pmp_map.specs.declared.run.Run.{Run}
 use Rattle.pmp_map.specs.Answers.{owned_rights}
 use Rattle.pmp_map.specs.Runs.{AreRuns}
 use Rattle.pmp_text.specs.declared.lines.hexadecimal.TheConstants.{ADDRESS_DIGITS}
 use Rattle.pmp_text.specs.declared.lines.picture.TheConstants.{BAND}
 use Rattle.pmp_text.specs.Hexadecimal.{hex_text}
-use Rattle.pmp_text.specs.PictureTexts.{foot, frozen_sign, held_sign, legend, style}
+use Rattle.pmp_text.specs.PictureTexts.{bypassed_sign, foot, frozen_sign, held_sign, legend, style}
 use Rattle.pmp_text.specs.RunLines.{rights_text}
 
 -- ---- a run
@@ -62,11 +65,16 @@ abbrev pub permissions : (machine others : List ℕ) → List ℕ
 permissions machine others =
     codes "<text x='592'>" ++ (machine ++ (codes "</text><text x='700'>" ++ (others ++ codes "</text>")))
 
--- a closed lock where the owner is held, an empty one where it is only frozen, each with its word
+-- a full lock if the owner is held, an empty one if it is only frozen, an open one if RLB bypasses its lock
+abbrev pub sign_of : Lock → (is_held : Bool) → List ℕ
+sign_of Frozen true = held_sign
+sign_of Frozen false = frozen_sign
+sign_of Bypassed is_held = bypassed_sign
+sign_of Open is_held = []
+
 abbrev pub lock_sign : RegisterFile → Option ℕ → List ℕ
 lock_sign file None = []
-lock_sign file (Some entry) =
-    if is_held file entry then held_sign else (if is_frozen file entry then frozen_sign else [])
+lock_sign file (Some entry) = sign_of (lock_of file entry) (is_held file entry)
 
 -- a band of these rights and with this sign
 abbrev pub drawn_band : (place : ℕ) → Run → (machine others sign : List ℕ) → List ℕ

@@ -13,9 +13,9 @@ style = lines_text (
     ++ codes "scale. A band has")
     ∷ (codes "the first and the last byte of its run, its size, its owner, what machine mode may do there, what "
     ++ codes "supervisor and user")
-    ∷ (codes "mode may do there, and a lock where the owner is frozen: a full one where all entries before it are "
-    ++ codes "frozen too, so that")
-    ∷ codes "what the owner decides holds until a reset, and else an empty one.</desc>"
+    ∷ (codes "mode may do there, and its lock: a full one if the owner and all entries before it are frozen, so that "
+    ++ codes "what the")
+    ∷ codes "owner decides holds until a reset, an empty one if only the owner is, an open one if RLB bypasses it.</desc>"
     ∷ codes "<style>"
     ∷ codes "text{font-family:monospace;font-size:13px;fill:#111}"
     ∷ codes ".large{font-size:20px;font-weight:bold}"
@@ -70,6 +70,11 @@ abbrev pub frozen_sign : List ℕ
 frozen_sign =
     codes "<path class='empty' d='M846-6h12v8h-12zM848-6v-3a4 4 0 0 1 8 0v3h-2v-3a2 2 0 0 0-4 0v3z'/>"
     ++ codes "<text x='864'>frozen</text>"
+
+-- an open lock, and the word
+abbrev pub bypassed_sign : List ℕ
+bypassed_sign =
+    codes "<path class='empty' d='M846-6h12v8h-12zM848-6v-6a4 4 0 0 1 8 0'/><text x='864'>bypassed</text>"
 
 -- the end of the bands and of the document
 unfoldable pub foot : List ℕ

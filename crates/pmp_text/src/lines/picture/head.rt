@@ -1,0 +1,126 @@
+//! What stands above the bands of a picture.
+
+ghost use Rattle.std.specs.Prelude.{◌≤◌, Some};
+ghost use Rattle.pmp_map.specs.declared.run.TheConstants.{RUNS};
+ghost use Rattle.pmp_text.specs.Picture.{opening, settings, switch_text, title};
+
+use crate::lines::picture::BAND;
+use pmp_core::{Csr, RegFile};
+use std::fmt;
+
+/// What the picture shows, in words for screen readers; the colour for each set of rights of supervisor and user mode;
+/// the background.
+pub const STYLE: &str = "\
+<desc>One band for each run of bytes that have one owner, from byte 0 down to byte 2^56 - 1, not to scale. A band has
+the first and the last byte of its run, its size, its owner, what machine mode may do there, what supervisor and user
+mode may do there, and its lock: a full one if the owner and all entries before it are frozen, so that what the
+owner decides holds until a reset, an empty one if only the owner is, an open one if RLB bypasses it.</desc>
+<style>
+text{font-family:monospace;font-size:13px;fill:#111}
+.large{font-size:20px;font-weight:bold}
+rect{fill:#fff}
+g rect{stroke:#fff}
+path{fill:#111}
+.empty{fill:none;stroke:#111}
+.su--- rect{fill:#dcdfe4}
+.su--x rect{fill:#e2d0ff}
+.sur-- rect{fill:#c9e2ff}
+.sur-x rect{fill:#c4edcb}
+.surw- rect{fill:#ffe9a3}
+.surwx rect{fill:#ffc4ba}
+</style>
+<rect width='960' height='100%'/>
+";
+
+/// What the bands and their colours mean, the names of their columns, and where the bands begin.
+pub const LEGEND: &str = "\
+<text x='16' y='86'>One band for each run of bytes that have one owner, from byte 0 down to byte 2^56 - 1; \
+not to scale.</text>
+<text x='16' y='117'>Colour: what supervisor and user mode may do</text>
+<g class='su---' transform='translate(380,117)'><rect y='-17' width='88' height='24'/><text x='8'>--- none</text></g>
+<g class='su--x' transform='translate(476,117)'><rect y='-17' width='64' height='24'/><text x='20'>--x</text></g>
+<g class='sur--' transform='translate(548,117)'><rect y='-17' width='64' height='24'/><text x='20'>r--</text></g>
+<g class='sur-x' transform='translate(620,117)'><rect y='-17' width='64' height='24'/><text x='20'>r-x</text></g>
+<g class='surw-' transform='translate(692,117)'><rect y='-17' width='64' height='24'/><text x='20'>rw-</text></g>
+<g class='surwx' transform='translate(764,117)'><rect y='-17' width='64' height='24'/><text x='20'>rwx</text></g>
+<g transform='translate(16,152)'>
+<text x='8'>First byte</text><text x='148'>Last byte</text><text x='292'>Size</text><text x='496'>Owner</text>
+<text x='592'>Machine</text><text x='700'>Supervisor, user</text><text x='846'>Lock</text>
+</g>
+<g transform='translate(16,177)'>
+";
+
+/// Whether a bit of `mseccfg` is set.
+fn switch_word(is_on: bool) -> &'static str
+    ensures { result.now ≡ switch_text is_on }
+{
+    if is_on { "on" } else { "off" }
+}
+
+/// The first tag of a picture of so many bands.
+#[derive(Clone, Copy)]
+pub struct Opening {
+    pub bands: usize,
+    ghost few: { bands ≤ RUNS },
+}
+
+impl fmt::Display for Opening {
+    ghost output = { λ tag. Some (opening tag.bands) };
+
+    fn fmt<W: fmt::Write>(&self, f: &mut fmt::Formatter<W>) -> fmt::Result {
+        let height = BAND * self.bands + 176;
+        write!(
+            f,
+            "<svg xmlns='http://www.w3.org/2000/svg' width='960' height='{height}' viewBox='0 0 960 {height}'>\n"
+        )
+    }
+}
+
+/// The title of a picture after so many publications.
+#[derive(Clone, Copy)]
+pub struct Title(pub u64);
+
+impl fmt::Display for Title {
+    ghost output = { λ publications. Some (title publications.0) };
+
+    fn fmt<W: fmt::Write>(&self, f: &mut fmt::Formatter<W>) -> fmt::Result {
+        let publications = self.0;
+        write!(f, "PMP memory map, publications done: {publications}")
+    }
+}
+
+/// Which of the bits MML, MMWP and RLB of `mseccfg` are set, as a line.
+#[derive(Clone, Copy)]
+pub struct Settings {
+    lockdown: bool,
+    policy: bool,
+    bypass: bool,
+}
+
+impl Settings {
+    pub fn of(file: &RegFile) -> Settings
+        ensures { record { mml = result.lockdown; mmwp = result.policy; rlb = result.bypass } ≡ file.now.mseccfg }
+    {
+        let bits = file.read(Csr::Mseccfg);
+        Settings {
+            lockdown: bits % 2 == 1,
+            policy: bits / 2 % 2 == 1,
+            bypass: bits / 4 % 2 == 1,
+        }
+    }
+}
+
+impl fmt::Display for Settings {
+    ghost output = { λ bits. Some (settings (record { mml = bits.lockdown; mmwp = bits.policy; rlb = bits.bypass })) };
+
+    fn fmt<W: fmt::Write>(&self, f: &mut fmt::Formatter<W>) -> fmt::Result {
+        let lockdown = switch_word(self.lockdown);
+        let policy = switch_word(self.policy);
+        let bypass = switch_word(self.bypass);
+        write!(
+            f,
+            "<text x='16' y='62'>Lockdown (MML) {lockdown}, allow-list policy (MMWP) {policy}, \
+            rule-locking bypass (RLB) {bypass}</text>\n"
+        )
+    }
+}
