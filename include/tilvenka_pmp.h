@@ -117,7 +117,7 @@ enum {
     /* Set by a write that was done: why the register doesn't read the value. None is set exactly when it does. */
     TILVENKA_PMP_ABSENT = 1 << 8, /* the value isn't zero for an entry, or a register, that the unit doesn't have */
     TILVENKA_PMP_BITS = 1 << 9, /* it has bits that the register lacks, such as those above 31 on RV32 */
-    TILVENKA_PMP_FROZEN = 1 << 10, /* it would change the byte or address of a frozen entry */
+    TILVENKA_PMP_FROZEN = 1 << 10, /* it would change the byte or address of a frozen entry: L is 1, RLB is 0 */
     TILVENKA_PMP_LOW_END = 1 << 11, /* it would change an unfrozen entry's address; the next entry is frozen and TOR */
     TILVENKA_PMP_RESERVED = 1 << 12, /* it has W without R for an unfrozen entry, and MML is 0 */
     TILVENKA_PMP_LOCKDOWN = 1 << 13, /* it would add a locked executable rule, MML is 1 and RLB is 0 */

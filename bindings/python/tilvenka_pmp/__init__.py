@@ -312,7 +312,7 @@ class Unit:
     def write(self, register: Union[int, str], value: int) -> Written:
         """Writes a register, as firmware does in M-mode. Ignores what the unit doesn't store, as the manual says. If
         the hart has no such register, such as an odd pmpcfg on RV64, or mseccfg without Smepmp, nothing changes, and
-        KeyError is raised.
+        KeyError is raised. Raises ValueError if the value is no number of 64 bits, or the register none of 32.
 
         >>> unit = Unit()
         >>> unit.write("pmpcfg0", 0x1a).reasons.words   # W without R
@@ -328,7 +328,8 @@ class Unit:
         return Written(bool(status & _c.CHANGED), moved, Reason(status >> 8 << 8))
 
     def read(self, register: Union[int, str]) -> int:
-        """Returns what the register reads. Raises KeyError if the hart has no such register."""
+        """Returns what the register reads. Raises KeyError if the hart has no such register, and ValueError if it is a number
+        of more than 32 bits."""
         value = ctypes.c_uint64()
         self._expect_done(_library.tilvenka_pmp_read(self._unit, _csr(register), value), register)
         return value.value
@@ -347,7 +348,7 @@ class Unit:
     def settle(self, questions: int) -> bool:
         """Builds the map if it isn't built and the given number of questions (decisions, rights, runs) since the last
         change pays for it. Returns whether it is then built. Count from 0 after a reset, a restore and each write that
-        is_changed, add one for each question, and call this before it.
+        is_changed, add one for each question, and call this before it. Raises ValueError if it is no number of 64 bits.
 
         >>> unit = Unit()
         >>> unit.write("pmpcfg0", 0x19).is_changed
