@@ -328,8 +328,8 @@ class Unit:
         return Written(bool(status & _c.CHANGED), moved, Reason(status >> 8 << 8))
 
     def read(self, register: Union[int, str]) -> int:
-        """Returns what the register reads. Raises KeyError if the hart has no such register, and ValueError if it is a number
-        of more than 32 bits."""
+        """Returns what the register reads. Raises KeyError if the hart has no such register, and ValueError if it is a
+        number of more than 32 bits."""
         value = ctypes.c_uint64()
         self._expect_done(_library.tilvenka_pmp_read(self._unit, _csr(register), value), register)
         return value.value
