@@ -1,6 +1,6 @@
 //! What stands above the bands of a picture.
 
-ghost use Rattle.std.specs.Prelude.{◌≤◌, Some};
+ghost use Rattle.std.specs.Prelude.{◌≡◌, ◌≤◌, Some};
 ghost use Rattle.pmp_map.specs.declared.run.TheConstants.{RUNS};
 ghost use Rattle.pmp_text.specs.Picture.{opening, settings, switch_text, title};
 
@@ -92,35 +92,35 @@ impl fmt::Display for Title {
 /// Which of the bits MML, MMWP and RLB of `mseccfg` are set, as a line.
 #[derive(Clone, Copy)]
 pub struct Settings {
-    lockdown: bool,
-    policy: bool,
-    bypass: bool,
+    mml: bool,
+    mmwp: bool,
+    rlb: bool,
 }
 
 impl Settings {
     pub fn of(file: &RegFile) -> Settings
-        ensures { record { mml = result.lockdown; mmwp = result.policy; rlb = result.bypass } ≡ file.now.mseccfg }
+        ensures { record { mml = result.mml; mmwp = result.mmwp; rlb = result.rlb } ≡ file.now.mseccfg }
     {
         let bits = file.read(Csr::Mseccfg);
         Settings {
-            lockdown: bits % 2 == 1,
-            policy: bits / 2 % 2 == 1,
-            bypass: bits / 4 % 2 == 1,
+            mml: bits % 2 == 1,
+            mmwp: bits / 2 % 2 == 1,
+            rlb: bits / 4 % 2 == 1,
         }
     }
 }
 
 impl fmt::Display for Settings {
-    ghost output = { λ bits. Some (settings (record { mml = bits.lockdown; mmwp = bits.policy; rlb = bits.bypass })) };
+    ghost output = { λ bits. Some (settings (record { mml = bits.mml; mmwp = bits.mmwp; rlb = bits.rlb })) };
 
     fn fmt<W: fmt::Write>(&self, f: &mut fmt::Formatter<W>) -> fmt::Result {
-        let lockdown = switch_word(self.lockdown);
-        let policy = switch_word(self.policy);
-        let bypass = switch_word(self.bypass);
+        let mml = switch_word(self.mml);
+        let mmwp = switch_word(self.mmwp);
+        let rlb = switch_word(self.rlb);
         write!(
             f,
-            "<text x='16' y='62'>Lockdown (MML) {lockdown}, allow-list policy (MMWP) {policy}, \
-            rule-locking bypass (RLB) {bypass}</text>\n"
+            "<text x='16' y='62'>Lockdown (MML) {mml}, allow-list policy (MMWP) {mmwp}, \
+            rule-locking bypass (RLB) {rlb}</text>\n"
         )
     }
 }
