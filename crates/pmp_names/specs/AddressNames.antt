@@ -32,16 +32,19 @@ begins_as_name (byte ∷ more) = not (is_ascii_digit byte)
 abbrev pub is_name : List ℕ → Bool
 is_name name = begins_as_name name && (list_all is_name_byte name && nat_le (length name) NAME_BYTES)
 
-abbrev pub is_comma : (byte : ℕ) → Bool
-is_comma byte = byte == 44
+abbrev pub is_separator : (separator byte : ℕ) → Bool
+is_separator separator byte = byte == separator
 
 abbrev pub parts_at : Option ℕ → (line : List ℕ) → Option (List ℕ × List ℕ)
 parts_at None line = None
 parts_at (Some end) line = Some (take end line, drop (end + 1) line)
 
--- what stands before the first comma, and what stands after it
+-- what stands before the first separator, and what stands after it
+abbrev pub split_once : (separator : ℕ) → (line : List ℕ) → Option (List ℕ × List ℕ)
+split_once separator line = parts_at (position (is_separator separator) line) line
+
 abbrev pub split_comma : (line : List ℕ) → Option (List ℕ × List ℕ)
-split_comma line = parts_at (position is_comma line) line
+split_comma line = split_once 44 line
 
 -- which field of a line is at fault, none where it hasn't three
 abbrev pub Fault : Type 0
@@ -124,13 +127,14 @@ met_names names first last = met_from true names first last
 -- ---- rows with names
 
 -- the field of a row with this number, from 0
-abbrev pub field_at : (index : ℕ) → (row : List ℕ) → Option (List ℕ)
-field_at zero row = Some (before_first is_comma row)
-field_at (suc index) row = elim (split_comma row) [ None ↦ None | Some parts ↦ field_at index parts.1 ]
+abbrev pub field_at : (separator index : ℕ) → (row : List ℕ) → Option (List ℕ)
+field_at separator zero row = Some (before_first (is_separator separator) row)
+field_at separator (suc index) row =
+    elim (split_once separator row) [ None ↦ None | Some parts ↦ field_at separator index parts.1 ]
 
 -- a byte address as rows write it
 abbrev pub address_at : (index : ℕ) → (row : List ℕ) → Option ℕ
-address_at index row = elim (field_at index row) [ None ↦ None | Some field ↦ numeral 16 ADDRESS_DIGITS field ]
+address_at index row = elim (field_at 44 index row) [ None ↦ None | Some field ↦ numeral 16 ADDRESS_DIGITS field ]
 
 abbrev pub names_between : List Named → (first last : Option ℕ) → List ℕ
 names_between names (Some first) (Some last) = met_names names first last

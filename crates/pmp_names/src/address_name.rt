@@ -2,8 +2,8 @@
 
 ghost use Rattle.std.specs.Prelude.{◌≡◌, option_map, position};
 ghost use Rattle.std.specs.List.{list_all};
-ghost use Rattle.pmp_names.specs.AddressNames.{begins_as_name, is_comma, is_name, is_name_byte, name_of_fields, name_said};
-ghost use Rattle.pmp_names.specs.AddressNames.{split_comma};
+ghost use Rattle.pmp_names.specs.AddressNames.{begins_as_name, is_name, is_name_byte, is_separator, name_of_fields};
+ghost use Rattle.pmp_names.specs.AddressNames.{name_said, split_comma, split_once};
 ghost use Rattle.pmp_names.specs.NameLists.{said_so};
 
 use pmp_text::read_word_number;
@@ -49,20 +49,27 @@ pub fn is_name(name: &[u8]) -> bool
     begins_as_name(name) && are_name_bytes(name) && name.len() <= NAME_BYTES
 }
 
-fn first_comma(line: &[u8]) -> Option<usize>
-    ensures { result ≡ position is_comma line.now }
+fn first_at(line: &[u8], separator: u8) -> Option<usize>
+    ensures { result ≡ position (is_separator separator) line.now }
 {
-    line.iter().position(|byte| *byte == b',')
+    line.iter().position(|byte| *byte == separator)
+}
+
+/// Returns the text before the first separator, and the text after it.
+pub fn split_once(line: &[u8], separator: u8) -> Option<(&[u8], &[u8])>
+    ensures { option_map (λ parts. (parts.0.now, parts.1.now)) result ≡ split_once separator line.now }
+{
+    match first_at(line, separator) {
+        Some(end) => Some((&line[..end], &line[end + 1..])),
+        None => None,
+    }
 }
 
 /// Returns the text before the first comma, and the text after it.
 pub fn split_comma(line: &[u8]) -> Option<(&[u8], &[u8])>
     ensures { option_map (λ parts. (parts.0.now, parts.1.now)) result ≡ split_comma line.now }
 {
-    match first_comma(line) {
-        Some(end) => Some((&line[..end], &line[end + 1..])),
-        None => None,
-    }
+    split_once(line, b',')
 }
 
 impl<'a> AddressName<'a> {

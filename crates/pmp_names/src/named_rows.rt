@@ -2,11 +2,11 @@
 
 ghost use Rattle.std.specs.Prelude.{◌≡◌, ◌++◌, OnOk, Some, map, option_map};
 ghost use Rattle.std.specs.List.{before_first};
-ghost use Rattle.pmp_names.specs.AddressNames.{address_at, field_at, is_comma, is_whole, meets, met_name, met_names};
-ghost use Rattle.pmp_names.specs.AddressNames.{names_between, offset_text, rows_with_names, with_names};
+ghost use Rattle.pmp_names.specs.AddressNames.{address_at, field_at, is_separator, is_whole, meets, met_name};
+ghost use Rattle.pmp_names.specs.AddressNames.{met_names, names_between, offset_text, rows_with_names, with_names};
 ghost use Rattle.pmp_names.specs.NameLists.{named};
 
-use crate::address_name::{AddressName, split_comma};
+use crate::address_name::{AddressName, split_once};
 use pmp_text::{ADDRESS_DIGITS, append_line, read_numeral, split_first_line};
 use std::alloc::AllocError;
 use std::fmt;
@@ -58,7 +58,7 @@ impl<'a> AddressName<'a> {
 }
 
 /// Appends the names that overlap a range, separated by blanks.
-fn append_met(
+pub fn append_met(
     out: &mut Vec<u8>,
     names: &[AddressName<'_>],
     first: u64,
@@ -79,32 +79,33 @@ fn append_met(
     Ok(())
 }
 
-fn first_field(row: &[u8]) -> &[u8]
-    ensures { result.now ≡ before_first is_comma row.now }
+/// Returns the field of a row before the first separator.
+pub fn first_field(row: &[u8], separator: u8) -> &[u8]
+    ensures { result.now ≡ before_first (is_separator separator) row.now }
 {
-    match split_comma(row) {
+    match split_once(row, separator) {
         Some((field, _)) => field,
         None => row,
     }
 }
 
 /// Returns the field of a row with this number.
-fn field_at(row: &[u8], index: usize) -> Option<&[u8]>
-    ensures { option_map (λ field. field.now) result ≡ field_at index row.now }
+pub fn field_at(row: &[u8], separator: u8, index: usize) -> Option<&[u8]>
+    ensures { option_map (λ field. field.now) result ≡ field_at separator index row.now }
 {
     let mut rest = row;
     for _passed in 0..index {
-        let (_, behind) = split_comma(rest)?;
+        let (_, behind) = split_once(rest, separator)?;
         rest = behind;
     }
-    Some(first_field(rest))
+    Some(first_field(rest, separator))
 }
 
 /// Returns the byte address in the field of a row with this number.
 fn address_at(row: &[u8], index: usize) -> Option<u64>
     ensures { result ≡ address_at index row.now }
 {
-    read_numeral(field_at(row, index)?, 16, ADDRESS_DIGITS)
+    read_numeral(field_at(row, b',', index)?, 16, ADDRESS_DIGITS)
 }
 
 /// Appends a row, followed by the names that overlap its range.

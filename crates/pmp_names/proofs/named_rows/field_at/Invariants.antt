@@ -4,4 +4,5 @@ use Rattle.pmp_names.proofs.named_rows.field_at.Given as goal
 
 -- the field of the rest is that of the row
 abbrev pub invariant-loop-passed : goal.invariant-loop-passed
-invariant-loop-passed l = field_at (l.index - l._passed) l.rest ≡ field_at l.index l.row
+invariant-loop-passed l =
+    field_at l.separator (l.index - l._passed) l.rest ≡ field_at l.separator l.index l.row
