@@ -1,6 +1,6 @@
 -- The names of harts, in lists of them.
 use Rattle.std.proofs.Common.{◌≡◌, ◌∙◌, refl, sym, ap, inl, inr, ℕ, suc, zero, ◌+◌, ◌<◌, ◌≤◌, arith, List, [], ◌∷◌, ◌++◌, length, get_or}
-use Rattle.std.proofs.Common.{map, Bool, true, false, cond, ◌&&◌, true≢false}
+use Rattle.std.proofs.Common.{Bool, true, false, cond, ◌&&◌, true≢false}
 use Rattle.std.specs.Cmp.Lexicographic.{bytes_decides, pointwise, slice_cmp}
 use Rattle.std.specs.List.{filter, list_all}
 use Rattle.std.specs.List.Sorted.{IsPermutation, IsSorted}

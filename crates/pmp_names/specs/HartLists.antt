@@ -1,5 +1,5 @@
 -- The names of harts as the program keeps them.
-use Rattle.std.specs.Prelude.{◌≡◌, List, ℕ, [], ◌∷◌, ◌++◌, map, true, if◌then◌else◌}
+use Rattle.std.specs.Prelude.{◌≡◌, List, ℕ, [], ◌∷◌, ◌++◌, map, true}
 use Rattle.std.specs.List.{filter, list_all}
 use Rattle.pmp_names.specs.declared.hart_name.HartName.{HartName}
 use Rattle.pmp_names.specs.HartNames.{is_hart_name, is_script}

@@ -17,7 +17,9 @@ use crate::fault_line::{FaultLine, Place};
 use crate::hart_words::{is_hart_said, read_hart, read_security};
 use crate::jobs::JOBS;
 use crate::request::{Audit, Check, Diff, Import, LongAudit, Plan, Request, Why};
-use crate::word::{Smepmp, Xlen, asked, count, is_bare_word, is_set, is_stdin, is_used, needed, word};
+use crate::word::{
+    Smepmp, Xlen, asked, count, is_bare_word, is_set, is_stdin, is_used, needed, word,
+};
 use clap::ArgMatches;
 use pmp_audit::{AskedChanges, Pace, View};
 use pmp_core::Access;

@@ -1,4 +1,4 @@
-use Rattle.std.proofs.Common.{◌≡◌, ◌∙◌, sym, ap, refl, ℕ, zero, suc, ◌+◌, ◌-◌, arith, List, Option, Some, None, option_map, subst}
+use Rattle.std.proofs.Common.{◌≡◌, ◌∙◌, sym, ap, ℕ, zero, suc, ◌+◌, ◌-◌, arith, List, Option, Some, None, option_map, subst}
 use Rattle.pmp_names.specs.AddressNames.{field_at, split_once}
 use Rattle.pmp_names.proofs.named_rows.field_at.Goals as goal
 
