@@ -69,7 +69,7 @@ fn main(rt: HostRuntime) -> ExitCode {
     match ended {
         Ok(()) if asked.is_some() => ExitCode::SUCCESS,
         Ok(()) => {
-            run_tests(rt);
+            run_tests(&rt, rt.alloc());
             ExitCode::from(try_cases(&rt, rt.alloc(), ""))
         }
         Err(failure) => fail(&rt, failure),

@@ -16,22 +16,29 @@ use inputs::{longer_texts_are_too_long, takes_no_more_than_it_needs};
 use outputs::writes_a_beginning;
 use rows::{the_longest_entry_row_has_room, the_longest_report_row_has_room};
 use sharing::test_sharing;
+use std::alloc::Global;
+use std::process::Abort;
+use std::sync::Wait;
+use std::thread::Threads;
 use using::{one_thread_decides, the_other_hart_learns};
 use values::defaults_refuse;
 
 /// Runs all tests.
-pub fn run_tests(rt: HostRuntime) {
+pub fn run_tests<R: Threads + Wait + Sync + Abort + Copy + Drop + Send + 'static>(
+    rt: &R,
+    alloc: Global,
+) {
     defaults_refuse(rt);
-    the_longest_report_row_has_room(rt);
-    the_longest_entry_row_has_room(rt);
-    takes_no_more_than_it_needs(rt);
-    longer_texts_are_too_long(rt);
-    writes_a_beginning(rt);
-    cuts_show_nowhere(rt);
-    order_goes_over_cuts(rt);
-    workers_overlap(rt);
-    workers_take_turns(rt);
-    test_sharing(rt);
+    the_longest_report_row_has_room(rt, alloc);
+    the_longest_entry_row_has_room(rt, alloc);
+    takes_no_more_than_it_needs(rt, alloc);
+    longer_texts_are_too_long(rt, alloc);
+    writes_a_beginning(rt, alloc);
+    cuts_show_nowhere(rt, alloc);
+    order_goes_over_cuts(rt, alloc);
+    workers_overlap(rt, alloc);
+    workers_take_turns(rt, alloc);
+    test_sharing(rt, alloc);
     one_thread_decides(rt);
-    the_other_hart_learns(rt);
+    the_other_hart_learns(rt, alloc);
 }

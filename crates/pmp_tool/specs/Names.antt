@@ -27,12 +27,13 @@ output_of (request.Policy path pace) = rows_by 3 4
 output_of _ = None
 
 -- names and the output, in plain values
-abbrev pub plain_naming : Option Naming → Option (List Named × Output)
+abbrev pub plain_naming : Option Naming → Option (List Named × Option Output)
 plain_naming naming = option_map (λ naming. (map named naming.names.now, naming.output)) naming
 
-abbrev pub named_so : Output → List Named → (text : List ℕ) → List ℕ
-named_so (output.Rows columns) names text = rows_with_names names columns text
-named_so output.Picture names text = picture_with_names names text
+abbrev pub named_so : Option Output → List Named → (text : List ℕ) → List ℕ
+named_so None names text = text
+named_so (Some (output.Rows columns)) names text = rows_with_names names columns text
+named_so (Some output.Picture) names text = picture_with_names names text
 
 -- an output with these names
 abbrev pub named_by : Option Naming → (text : List ℕ) → List ℕ

@@ -28,23 +28,25 @@ use Rattle.pmp_tool.specs.Harts.{AreUnfound, IsOfNone, IsOfSome}
 use Rattle.pmp_tool.specs.Inputs.{AreBytesOf, CantBeRead, Folders, Inputs}
 use Rattle.pmp_tool.specs.NamedAnswers.{OneAnswer, OneFails}
 use Rattle.pmp_tool.specs.Names.{output_of, plain_naming}
-use Rattle.pmp_tool.specs.NumberedInputs.{numbered_inputs}
+use Rattle.pmp_tool.specs.NumberedInputs.{traces_for}
 
 module _ (scripts traces : Inputs) (folders : Folders) (command : Command) (before after : Option (List ℕ)) where
   -- what a command asks for was written: of the hart of its script, or of each hart of a folder
   abbrev pub DoneBy : Option Naming → Outcome → Type 0
-  DoneBy naming outcome = (IsOfNone folders command × OneAnswer scripts traces command before after naming outcome)
+  DoneBy naming outcome =
+      (IsOfNone folders command × OneAnswer scripts (traces_for naming traces) command before after naming outcome)
       ⊎ ((harts : Harts) × IsOfSome folders command harts
-      × FolderAnswer scripts traces command naming harts before after outcome)
+      × FolderAnswer scripts (traces_for naming traces) command naming harts before after outcome)
 
   -- why it gets no answer
   pub data UndoneBy (naming : Option Naming) : Failure → Type 0 where
     no_harts : (failure : Failure) → AreUnfound folders command failure → Keeps before after
         → UndoneBy naming failure
     of_one : (failure : Failure) → IsOfNone folders command
-        → OneFails scripts traces command before after naming failure → UndoneBy naming failure
+        → OneFails scripts (traces_for naming traces) command before after naming failure → UndoneBy naming failure
     of_harts : (harts : Harts) (failure : Failure) → IsOfSome folders command harts
-        → FolderFails scripts traces command naming harts before after failure → UndoneBy naming failure
+        → FolderFails scripts (traces_for naming traces) command naming harts before after failure
+        → UndoneBy naming failure
 
   -- a folder was made where it asks for one, and the scripts at all paths are as before where it doesn't
   abbrev pub DoneFor : Option (Import × Text) → Option Naming → (made : Inputs) → Outcome → Type 0
@@ -69,18 +71,14 @@ abbrev pub AreNamesAt : (traces : Inputs) → (path : Option Text) → List Name
 AreNamesAt traces None names = names ≡ []
 AreNamesAt traces (Some path) names = (text : List ℕ) × AreBytesOf (traces path) text × (names_said text ≡ Ok names)
 
--- the rows of a request are to have them behind them, where there is such a text
+-- what a request writes is to have them, if there is such a text
 abbrev pub IsNamingAt : (path : Option Text) → List Named → Request → Option Naming → Type 0
 IsNamingAt None names request naming = naming ≡ None
 IsNamingAt (Some path) names request naming =
-    plain_naming naming ≡ option_map (λ output. (names, output)) (output_of request)
+    plain_naming naming ≡ Some (names, output_of request)
 
 module _ (found : Option (Text × List Row)) (scripts traces : Inputs) (folders : Folders) (before after : Option (List ℕ)) where
   module _ (path : Option Text) where
-    -- the traces and policies, with numbers in the places of these names if there is such a text
-    abbrev pub numbered_at : List Named → Inputs
-    numbered_at names = numbered_inputs (option_map (λ at. names) path) traces
-
     -- it asks for this command, where addresses have the names of the text at the path
     pub record AsksFor (command : Command) (naming : Option Naming) : Type 0 where
       pub names : List Named
@@ -93,7 +91,7 @@ module _ (found : Option (Text × List Row)) (scripts traces : Inputs) (folders 
       pub command : Command
       pub naming : Option Naming
       pub asks : AsksFor command naming
-      pub done : Done scripts (numbered_at asks.names) folders command before after naming made outcome
+      pub done : Done scripts traces folders command before after naming made outcome
 
     -- why it isn't
     pub data DoesNotAt : Failure → Type 0 where
@@ -106,8 +104,8 @@ module _ (found : Option (Text × List Row)) (scripts traces : Inputs) (folders 
       refused_word : (names : List Named) (fault : FaultLine) → AreNamesAt traces path names
           → asked_of names found ≡ Err fault → Keeps before after → DoesNotAt (Refused fault)
       -- it asks for something of a script that gets no answer
-      undone : (command : Command) (naming : Option Naming) (failure : Failure) (asks : AsksFor command naming)
-          → Undone scripts (numbered_at asks.names) folders command before after naming failure → DoesNotAt failure
+      undone : (command : Command) (naming : Option Naming) (failure : Failure) → AsksFor command naming
+          → Undone scripts traces folders command before after naming failure → DoesNotAt failure
 
   -- that was done, with names where the words ask for some
   pub record Does (made : Inputs) (outcome : Outcome) : Type 0 where

@@ -6,6 +6,7 @@ ghost use Rattle.pmp_audit.specs.Answers.{IsWritten};
 ghost use Rattle.pmp_tool.specs.Requests.{ImportFails, IsGiven, IsUnread, RequestFails, RequestSays, has_names};
 ghost use Rattle.pmp_tool.specs.Requests.{name_allowed, old_side};
 ghost use Rattle.pmp_tool.specs.CommandAnswers.{CommandAnswers, CommandFails, IsScriptOf};
+ghost use Rattle.pmp_tool.specs.NumberedInputs.{traces_for};
 ghost use Rattle.pmp_tool.specs.declared.request.Request.TheVariants as request;
 
 use crate::argument::Argument;
@@ -14,7 +15,9 @@ use crate::failure::Failure;
 use crate::fault_line::FaultLine;
 use crate::inputs::Inputs;
 use crate::jobs::processors;
+use crate::naming::Naming;
 use crate::note::Note;
+use crate::numbered_inputs::{open_trace, read_trace};
 use crate::outcome::Outcome;
 use crate::plan_answers::{answer_plan, answer_plan_of};
 use crate::request::{Audit, Check, Diff, Import, LongAudit, Request, Why};
@@ -35,18 +38,19 @@ pub fn answer<R: Threads + Wait + Sync, I: Inputs, O: Write>(
     rt: &R,
     alloc: Global,
     command: Command<'_>,
+    naming: Option<Naming<'_>>,
     inputs: &mut I,
     out: &mut O,
 ) -> Result<Outcome, Failure>
-    ensures ok { IfOk result (CommandAnswers (I.scripts inputs.old) (I.traces inputs.old) command.entry
+    ensures ok { IfOk result (CommandAnswers (I.scripts inputs.old) (traces_for naming.entry (I.traces inputs.old)) command.entry
         (O.contents out.old) (O.contents out.new)) }
-    ensures err { IfErr result (CommandFails (I.scripts inputs.old) (I.traces inputs.old) command.entry
+    ensures err { IfErr result (CommandFails (I.scripts inputs.old) (traces_for naming.entry (I.traces inputs.old)) command.entry
         (O.contents out.old) (O.contents out.new)) }
     ensures scripts { I.scripts inputs.new ≡ I.scripts inputs.old }
     ensures traces { I.traces inputs.new ≡ I.traces inputs.old }
 {
     let script = script_of(alloc, inputs, command)?;
-    answer_request(rt, alloc, &script, command.request, inputs, out)
+    answer_request(rt, alloc, &script, command.request, naming, inputs, out)
 }
 
 /// Executes a request about a script.
@@ -55,28 +59,33 @@ fn answer_request<R: Threads + Wait + Sync, I: Inputs, O: Write>(
     alloc: Global,
     script: &[u8],
     request: Request<'_>,
+    naming: Option<Naming<'_>>,
     inputs: &mut I,
     out: &mut O,
 ) -> Result<Outcome, Failure>
-    ensures ok { IfOk result (IsWritten (RequestSays (I.scripts inputs.old) (I.traces inputs.old) script.now
+    ensures ok { IfOk result (IsWritten (RequestSays (I.scripts inputs.old) (traces_for naming.entry (I.traces inputs.old)) script.now
         request.entry) (O.contents out.old) (O.contents out.new)) }
     ensures err { IfErr result (RequestFails (O.contents out.old) (O.contents out.new) (I.scripts inputs.old)
-        (I.traces inputs.old) script.now request.entry) }
+        (traces_for naming.entry (I.traces inputs.old)) script.now request.entry) }
     ensures scripts { I.scripts inputs.new ≡ I.scripts inputs.old }
     ensures traces { I.traces inputs.new ≡ I.traces inputs.old }
 {
     match request {
         Request::Check(asked) => answer_check(alloc, script, asked, out),
         Request::Why(asked) => answer_why(alloc, script, asked, out),
-        Request::Audit(asked) => answer_audit(rt, alloc, script, asked, inputs, out),
-        Request::LongAudit(asked) => answer_long_audit(rt, alloc, script, asked, inputs, out),
-        Request::Policy(path, pace) => answer_policy(alloc, script, path, pace, inputs, out),
+        Request::Audit(asked) => answer_audit(rt, alloc, script, asked, naming, inputs, out),
+        Request::LongAudit(asked) => answer_long_audit(
+            rt, alloc, script, asked, naming, inputs, out,
+        ),
+        Request::Policy(path, pace) => answer_policy(
+            alloc, script, path, pace, naming, inputs, out,
+        ),
         Request::Show(view, after) => answer_show(alloc, script, view, after, out),
         Request::Writes => Ok(Outcome::Replayed(writes(alloc, script, out)?)),
         Request::Lint(accepted) => answer_lint(alloc, script, accepted, out),
         Request::Diff(asked) => answer_diff(alloc, script, asked, inputs, out),
         Request::Harts(_) => Err(Failure::from(Refusal::BadFolder)),
-        Request::Import(asked) => answer_import(alloc, asked, inputs, out),
+        Request::Import(asked) => answer_import(alloc, asked, naming, inputs, out),
         Request::Plan(asked) => answer_plan(alloc, script, asked, out),
         Request::PlanOf => answer_plan_of(alloc, script, out),
     }
@@ -176,17 +185,18 @@ fn answer_audit<R: Threads + Wait + Sync, I: Inputs, O: Write>(
     alloc: Global,
     script: &[u8],
     asked: Audit<'_>,
+    naming: Option<Naming<'_>>,
     inputs: &mut I,
     out: &mut O,
 ) -> Result<Outcome, Failure>
-    ensures ok { IfOk result (IsWritten (RequestSays (I.scripts inputs.old) (I.traces inputs.old) script.now
+    ensures ok { IfOk result (IsWritten (RequestSays (I.scripts inputs.old) (traces_for naming.entry (I.traces inputs.old)) script.now
         (request.Audit asked.entry)) (O.contents out.old) (O.contents out.new)) }
     ensures err { IfErr result (RequestFails (O.contents out.old) (O.contents out.new) (I.scripts inputs.old)
-        (I.traces inputs.old) script.now (request.Audit asked.entry)) }
+        (traces_for naming.entry (I.traces inputs.old)) script.now (request.Audit asked.entry)) }
     ensures scripts { I.scripts inputs.new ≡ I.scripts inputs.old }
     ensures traces { I.traces inputs.new ≡ I.traces inputs.old }
 {
-    let trace = inputs.trace(asked.trace)?;
+    let trace = read_trace(alloc, naming, inputs, asked.trace)?;
     let summary = match asked.checkers {
         Some(k) => audit_shared(rt, alloc, &OpenGate, k as u8, script, &trace, out)?,
         None => audit(alloc, script, &trace, out)?,
@@ -200,17 +210,18 @@ fn answer_long_audit<R: Threads + Wait + Sync, I: Inputs, O: Write>(
     alloc: Global,
     script: &[u8],
     asked: LongAudit<'_>,
+    naming: Option<Naming<'_>>,
     inputs: &mut I,
     out: &mut O,
 ) -> Result<Outcome, Failure>
-    ensures ok { IfOk result (IsWritten (RequestSays (I.scripts inputs.old) (I.traces inputs.old) script.now
+    ensures ok { IfOk result (IsWritten (RequestSays (I.scripts inputs.old) (traces_for naming.entry (I.traces inputs.old)) script.now
         (request.LongAudit asked.entry)) (O.contents out.old) (O.contents out.new)) }
     ensures err { IfErr result (RequestFails (O.contents out.old) (O.contents out.new) (I.scripts inputs.old)
-        (I.traces inputs.old) script.now (request.LongAudit asked.entry)) }
+        (traces_for naming.entry (I.traces inputs.old)) script.now (request.LongAudit asked.entry)) }
     ensures scripts { I.scripts inputs.new ≡ I.scripts inputs.old }
     ensures traces { I.traces inputs.new ≡ I.traces inputs.old }
 {
-    let mut rows = inputs.open_trace(asked.trace)?;
+    let mut rows = open_trace(naming, inputs, asked.trace)?;
     let jobs = asked.jobs.unwrap_or_else(|| processors(rt)) as usize;
     let summary = audit_long(rt, alloc, jobs, script, asked.first, PIECE, &mut rows, out)?;
     Ok(Outcome::Audited(summary))
@@ -222,17 +233,18 @@ fn answer_policy<I: Inputs, O: Write>(
     script: &[u8],
     path: &str,
     pace: Pace,
+    naming: Option<Naming<'_>>,
     inputs: &mut I,
     out: &mut O,
 ) -> Result<Outcome, Failure>
-    ensures ok { IfOk result (IsWritten (RequestSays (I.scripts inputs.old) (I.traces inputs.old) script.now
+    ensures ok { IfOk result (IsWritten (RequestSays (I.scripts inputs.old) (traces_for naming.entry (I.traces inputs.old)) script.now
         (request.Policy path.entry pace)) (O.contents out.old) (O.contents out.new)) }
     ensures err { IfErr result (RequestFails (O.contents out.old) (O.contents out.new) (I.scripts inputs.old)
-        (I.traces inputs.old) script.now (request.Policy path.entry pace)) }
+        (traces_for naming.entry (I.traces inputs.old)) script.now (request.Policy path.entry pace)) }
     ensures scripts { I.scripts inputs.new ≡ I.scripts inputs.old }
     ensures traces { I.traces inputs.new ≡ I.traces inputs.old }
 {
-    let policy = inputs.trace(path)?;
+    let policy = read_trace(alloc, naming, inputs, path)?;
     Ok(Outcome::Judged(check_policy(alloc, pace, script, &policy, out)?))
 }
 
@@ -244,10 +256,10 @@ fn answer_diff<I: Inputs, O: Write>(
     inputs: &mut I,
     out: &mut O,
 ) -> Result<Outcome, Failure>
-    ensures ok { IfOk result (IsWritten (RequestSays (I.scripts inputs.old) (I.traces inputs.old) script.now
+    ensures ok { (traces : Inputs) → IfOk result (IsWritten (RequestSays (I.scripts inputs.old) traces script.now
         (request.Diff asked.entry)) (O.contents out.old) (O.contents out.new)) }
-    ensures err { IfErr result (RequestFails (O.contents out.old) (O.contents out.new) (I.scripts inputs.old)
-        (I.traces inputs.old) script.now (request.Diff asked.entry)) }
+    ensures err { (traces : Inputs) → IfErr result (RequestFails (O.contents out.old) (O.contents out.new)
+        (I.scripts inputs.old) traces script.now (request.Diff asked.entry)) }
     ensures scripts { I.scripts inputs.new ≡ I.scripts inputs.old }
     ensures traces { I.traces inputs.new ≡ I.traces inputs.old }
 {
@@ -271,18 +283,19 @@ fn answer_diff<I: Inputs, O: Write>(
 fn answer_import<I: Inputs, O: Write>(
     alloc: Global,
     asked: Import<'_>,
+    naming: Option<Naming<'_>>,
     inputs: &mut I,
     out: &mut O,
 ) -> Result<Outcome, Failure>
-    ensures ok { (script : List ℕ) → IfOk result (IsWritten (RequestSays (I.scripts inputs.old) (I.traces inputs.old)
+    ensures ok { (script : List ℕ) → IfOk result (IsWritten (RequestSays (I.scripts inputs.old) (traces_for naming.entry (I.traces inputs.old))
         script (request.Import asked.entry)) (O.contents out.old) (O.contents out.new)) }
     ensures err { (script : List ℕ) → IfErr result (RequestFails (O.contents out.old) (O.contents out.new)
-        (I.scripts inputs.old) (I.traces inputs.old) script (request.Import asked.entry)) }
+        (I.scripts inputs.old) (traces_for naming.entry (I.traces inputs.old)) script (request.Import asked.entry)) }
     ensures scripts { I.scripts inputs.new ≡ I.scripts inputs.old }
     ensures traces { I.traces inputs.new ≡ I.traces inputs.old }
 {
-    let (given, note) = given_of(alloc, asked, inputs)?;
-    let mut log = inputs.open_trace(asked.log)?;
+    let (given, note) = given_of(alloc, asked, naming, inputs)?;
+    let mut log = open_trace(naming, inputs, asked.log)?;
     import(alloc, given, &mut log, out)?;
     Ok(Outcome::Imported(note))
 }
@@ -291,10 +304,11 @@ fn answer_import<I: Inputs, O: Write>(
 fn given_of<I: Inputs>(
     alloc: Global,
     asked: Import<'_>,
+    naming: Option<Naming<'_>>,
     inputs: &mut I,
 ) -> Result<(Given, Note), Failure>
-    ensures ok { IfOk result (λ both. IsGiven (I.traces inputs.old asked.entry.log.now) asked.entry both.0 both.1) }
-    ensures err { (out : Option (List ℕ)) → IfErr result (ImportFails (I.traces inputs.old asked.entry.log.now)
+    ensures ok { IfOk result (λ both. IsGiven (traces_for naming.entry (I.traces inputs.old) asked.entry.log.now) asked.entry both.0 both.1) }
+    ensures err { (out : Option (List ℕ)) → IfErr result (ImportFails (traces_for naming.entry (I.traces inputs.old) asked.entry.log.now)
         asked.entry out out) }
     ensures scripts { I.scripts inputs.new ≡ I.scripts inputs.old }
     ensures traces { I.traces inputs.new ≡ I.traces inputs.old }
@@ -303,7 +317,7 @@ fn given_of<I: Inputs>(
         let given = asked.options.alone(asked.format);
         return Ok((given, Note::Taken(given.hart, given.entries)));
     }
-    let mut log = inputs.open_trace(asked.log)?;
+    let mut log = open_trace(naming, inputs, asked.log)?;
     let survey = survey_log(alloc, asked.format, asked.options.hart, &mut log)?;
     let given = asked.options.with(asked.format, &survey)?;
     Ok((given, Note::Guessed(given.hart, given.entries, survey.left)))

@@ -6,6 +6,7 @@ ghost use Rattle.pmp_tool.specs.Commands.{task_of};
 ghost use Rattle.pmp_tool.specs.HartSteps.{FailsOn, IsAnsweredOn, with_new};
 ghost use Rattle.pmp_tool.specs.Failures.{of_hart};
 ghost use Rattle.pmp_tool.specs.NamedAnswers.{FailsApart, OneAnswer, OneFails};
+ghost use Rattle.pmp_tool.specs.NumberedInputs.{traces_for};
 ghost use Rattle.pmp_tool.specs.declared.failure.Failure.{Failure};
 ghost use Rattle.pmp_tool.specs.Harts.{HartsAnswer, HartsFail, new_script, path_on};
 
@@ -69,16 +70,17 @@ pub fn answer_apart<R: Threads + Wait + Sync, I: Inputs>(
     rt: &R,
     alloc: Global,
     command: Command<'_>,
+    naming: Option<Naming<'_>>,
     inputs: &mut I,
 ) -> Result<(Outcome, Vec<u8>), Failure>
-    ensures ok { IfOk result (λ both. CommandAnswers (I.scripts inputs.old) (I.traces inputs.old) command.entry
+    ensures ok { IfOk result (λ both. CommandAnswers (I.scripts inputs.old) (traces_for naming.entry (I.traces inputs.old)) command.entry
         (Some []) (Some both.1.items) both.0) }
-    ensures err { IfErr result (FailsApart (I.scripts inputs.old) (I.traces inputs.old) command.entry) }
+    ensures err { IfErr result (FailsApart (I.scripts inputs.old) (traces_for naming.entry (I.traces inputs.old)) command.entry) }
     ensures scripts { I.scripts inputs.new ≡ I.scripts inputs.old }
     ensures traces { I.traces inputs.new ≡ I.traces inputs.old }
 {
     let mut rows = Vec::new(alloc);
-    match answer(rt, alloc, command, inputs, &mut rows) {
+    match answer(rt, alloc, command, naming, inputs, &mut rows) {
         Ok(outcome) => Ok((outcome, rows)),
         Err(failure) => Err(failure.in_memory()),
     }
@@ -93,14 +95,14 @@ pub fn answer_one<R: Threads + Wait + Sync, I: Inputs, O: Write>(
     inputs: &mut I,
     out: &mut O,
 ) -> Result<Outcome, Failure>
-    ensures ok { IfOk result (OneAnswer (I.scripts inputs.old) (I.traces inputs.old) command.entry
+    ensures ok { IfOk result (OneAnswer (I.scripts inputs.old) (traces_for naming.entry (I.traces inputs.old)) command.entry
         (O.contents out.old) (O.contents out.new) naming.entry) }
-    ensures err { IfErr result (OneFails (I.scripts inputs.old) (I.traces inputs.old) command.entry
+    ensures err { IfErr result (OneFails (I.scripts inputs.old) (traces_for naming.entry (I.traces inputs.old)) command.entry
         (O.contents out.old) (O.contents out.new) naming.entry) }
     ensures scripts { I.scripts inputs.new ≡ I.scripts inputs.old }
 {
     match naming {
-        None => answer(rt, alloc, command, inputs, out),
+        None => answer(rt, alloc, command, None, inputs, out),
         Some(naming) => answer_named(rt, alloc, command, naming, inputs, out),
     }
 }
@@ -114,13 +116,13 @@ fn answer_named<R: Threads + Wait + Sync, I: Inputs, O: Write>(
     inputs: &mut I,
     out: &mut O,
 ) -> Result<Outcome, Failure>
-    ensures ok { IfOk result (OneAnswer (I.scripts inputs.old) (I.traces inputs.old) command.entry
+    ensures ok { IfOk result (OneAnswer (I.scripts inputs.old) (traces_for (Some naming.entry) (I.traces inputs.old)) command.entry
         (O.contents out.old) (O.contents out.new) (Some naming.entry)) }
-    ensures err { IfErr result (OneFails (I.scripts inputs.old) (I.traces inputs.old) command.entry
+    ensures err { IfErr result (OneFails (I.scripts inputs.old) (traces_for (Some naming.entry) (I.traces inputs.old)) command.entry
         (O.contents out.old) (O.contents out.new) (Some naming.entry)) }
     ensures scripts { I.scripts inputs.new ≡ I.scripts inputs.old }
 {
-    let (outcome, rows) = answer_apart(rt, alloc, command, inputs)?;
+    let (outcome, rows) = answer_apart(rt, alloc, command, Some(naming), inputs)?;
     let named = with_names(alloc, Some(naming), rows)?;
     write_out(out, &named)?;
     Ok(outcome)
@@ -131,18 +133,19 @@ fn answer_alone<R: Threads + Wait + Sync, I: Inputs>(
     rt: &R,
     alloc: Global,
     command: Command<'_>,
+    naming: Option<Naming<'_>>,
     hart: &HartName,
     inputs: &mut I,
 ) -> Result<(Outcome, Vec<u8>), Failure>
-    ensures ok { IfOk result (λ both. CommandAnswers (I.scripts inputs.old) (I.traces inputs.old) command.entry
+    ensures ok { IfOk result (λ both. CommandAnswers (I.scripts inputs.old) (traces_for naming.entry (I.traces inputs.old)) command.entry
         (Some []) (Some both.1.items) both.0) }
-    ensures err { IfErr result (λ failure. (alone : Failure) × FailsApart (I.scripts inputs.old) (I.traces inputs.old)
+    ensures err { IfErr result (λ failure. (alone : Failure) × FailsApart (I.scripts inputs.old) (traces_for naming.entry (I.traces inputs.old))
         command.entry alone × (failure ≡ of_hart hart.now.name alone)) }
     ensures scripts { I.scripts inputs.new ≡ I.scripts inputs.old }
     ensures traces { I.traces inputs.new ≡ I.traces inputs.old }
 {
     inputs.forget();
-    match answer_apart(rt, alloc, command, inputs) {
+    match answer_apart(rt, alloc, command, naming, inputs) {
         Ok(both) => Ok(both),
         Err(failure) => Err(failure.of_hart(hart.name)),
     }
@@ -159,9 +162,9 @@ fn answer_on<R: Threads + Wait + Sync, I: Inputs>(
     inputs: &mut I,
     rows: &mut Vec<u8>,
 ) -> Result<Outcome, Failure>
-    ensures ok { IfOk result (IsAnsweredOn (I.scripts inputs.old) (I.traces inputs.old) command.entry naming.entry harts.now
+    ensures ok { IfOk result (IsAnsweredOn (I.scripts inputs.old) (traces_for naming.entry (I.traces inputs.old)) command.entry naming.entry harts.now
         hart.now.name.bytes rows.old.items rows.new.items) }
-    ensures err { IfErr result (FailsOn (I.scripts inputs.old) (I.traces inputs.old) command.entry harts.now hart.now) }
+    ensures err { IfErr result (FailsOn (I.scripts inputs.old) (traces_for naming.entry (I.traces inputs.old)) command.entry harts.now hart.now) }
     ensures scripts { I.scripts inputs.new ≡ I.scripts inputs.old }
     ensures traces { I.traces inputs.new ≡ I.traces inputs.old }
 {
@@ -172,7 +175,7 @@ fn answer_on<R: Threads + Wait + Sync, I: Inputs>(
         script: script.as_str(),
         request: command.request.with_new(new.as_str()),
     };
-    let (outcome, alone) = answer_alone(rt, alloc, one, hart, inputs)?;
+    let (outcome, alone) = answer_alone(rt, alloc, one, naming, hart, inputs)?;
     let named = with_names(alloc, naming, alone)?;
     append_rows(rows, name, &named)?;
     Ok(outcome)
@@ -188,9 +191,9 @@ pub fn answer_harts<R: Threads + Wait + Sync, I: Inputs, O: Write>(
     inputs: &mut I,
     out: &mut O,
 ) -> Result<Outcome, Failure>
-    ensures ok { IfOk result (HartsAnswer (I.scripts inputs.old) (I.traces inputs.old) command.entry naming.entry harts.now
+    ensures ok { IfOk result (HartsAnswer (I.scripts inputs.old) (traces_for naming.entry (I.traces inputs.old)) command.entry naming.entry harts.now
         (O.contents out.old) (O.contents out.new)) }
-    ensures err { IfErr result (HartsFail (I.scripts inputs.old) (I.traces inputs.old) command.entry naming.entry harts.now
+    ensures err { IfErr result (HartsFail (I.scripts inputs.old) (traces_for naming.entry (I.traces inputs.old)) command.entry naming.entry harts.now
         (O.contents out.old) (O.contents out.new)) }
     ensures scripts { I.scripts inputs.new ≡ I.scripts inputs.old }
 {

@@ -3,6 +3,7 @@
 ghost use Rattle.std.specs.Prelude.{◌≡◌, IfErr, IfOk};
 ghost use Rattle.pmp_tool.specs.HartComparisons.{CantCompare, FolderAnswer, FolderFails, HartsCompare, compares_harts};
 ghost use Rattle.pmp_tool.specs.HartComparisons.{compares_locks};
+ghost use Rattle.pmp_tool.specs.NumberedInputs.{traces_for};
 
 use crate::command::Command;
 use crate::failure::Failure;
@@ -43,9 +44,9 @@ pub fn answer_folder<R: Threads + Wait + Sync, I: Inputs, O: Write>(
     inputs: &mut I,
     out: &mut O,
 ) -> Result<Outcome, Failure>
-    ensures ok { IfOk result (FolderAnswer (I.scripts inputs.old) (I.traces inputs.old) command.entry naming.entry harts
+    ensures ok { IfOk result (FolderAnswer (I.scripts inputs.old) (traces_for naming.entry (I.traces inputs.old)) command.entry naming.entry harts
         (O.contents out.old) (O.contents out.new)) }
-    ensures err { IfErr result (FolderFails (I.scripts inputs.old) (I.traces inputs.old) command.entry naming.entry harts
+    ensures err { IfErr result (FolderFails (I.scripts inputs.old) (traces_for naming.entry (I.traces inputs.old)) command.entry naming.entry harts
         (O.contents out.old) (O.contents out.new)) }
     ensures scripts { I.scripts inputs.new ≡ I.scripts inputs.old }
 {
@@ -66,9 +67,9 @@ fn compare_harts<R: Threads + Wait + Sync, I: Inputs, O: Write>(
     inputs: &mut I,
     out: &mut O,
 ) -> Result<Outcome, Failure>
-    ensures ok { IfOk result (HartsCompare (I.scripts inputs.old) (I.traces inputs.old) command.entry naming.entry harts
+    ensures ok { IfOk result (HartsCompare (I.scripts inputs.old) (traces_for naming.entry (I.traces inputs.old)) command.entry naming.entry harts
         (O.contents out.old) (O.contents out.new)) }
-    ensures err { IfErr result (CantCompare (I.scripts inputs.old) (I.traces inputs.old) command.entry naming.entry harts
+    ensures err { IfErr result (CantCompare (I.scripts inputs.old) (traces_for naming.entry (I.traces inputs.old)) command.entry naming.entry harts
         (O.contents out.old) (O.contents out.new)) }
     ensures scripts { I.scripts inputs.new ≡ I.scripts inputs.old }
 {

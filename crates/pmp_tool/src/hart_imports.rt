@@ -65,7 +65,7 @@ fn add_hart<R: Threads + Wait + Sync, I: Inputs>(
         ..import.options
     };
     let request = Request::Import(Import { options, ..import });
-    let (_, text) = answer_apart(rt, alloc, Command { request, ..command }, inputs)?;
+    let (_, text) = answer_apart(rt, alloc, Command { request, ..command }, None, inputs)?;
     keep(all, HartScript { hart, text })?;
     Ok(())
 }

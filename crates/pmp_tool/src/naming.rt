@@ -1,6 +1,6 @@
 //! The names that are added to a command's output.
 
-ghost use Rattle.std.specs.Prelude.{◌≡◌, IfOk, map, option_map};
+ghost use Rattle.std.specs.Prelude.{◌≡◌, IfOk, Some, map};
 ghost use Rattle.pmp_names.specs.NameLists.{named};
 ghost use Rattle.pmp_tool.specs.Names.{named_by, output_of, plain_naming};
 
@@ -21,7 +21,8 @@ pub enum Named {
 #[derive(Clone, Copy)]
 pub struct Naming<'a> {
     pub names: &'a [AddressName<'a>],
-    pub output: Named,
+    /// None if nothing is added.
+    pub output: Option<Named>,
 }
 
 /// Returns what its output is, if names are added to it.
@@ -41,14 +42,13 @@ fn output_of(request: Request<'_>) -> Option<Named>
 }
 
 impl<'a> Naming<'a> {
-    /// Returns these names, for the rows of a request.
-    pub fn of(names: &'a [AddressName<'a>], request: Request<'_>) -> Option<Naming<'a>>
-        ensures { plain_naming result ≡ option_map (λ output. (map named names.now, output))
-            (output_of request.entry) }
+    /// Returns these names, for the output of a request.
+    pub fn of(names: &'a [AddressName<'a>], request: Request<'_>) -> Naming<'a>
+        ensures { plain_naming (Some result) ≡ Some (map named names.now, output_of request.entry) }
     {
-        match output_of(request) {
-            Some(output) => Some(Naming { names, output }),
-            None => None,
+        Naming {
+            names,
+            output: output_of(request),
         }
     }
 }
@@ -66,8 +66,9 @@ pub fn with_names(
     };
     let mut all = Vec::new(alloc);
     match naming.output {
-        Named::Rows(columns) => append_named(&mut all, naming.names, columns, &rows)?,
-        Named::Picture => append_named_picture(&mut all, naming.names, &rows)?,
+        Some(Named::Rows(columns)) => append_named(&mut all, naming.names, columns, &rows)?,
+        Some(Named::Picture) => append_named_picture(&mut all, naming.names, &rows)?,
+        None => return Ok(rows),
     }
     Ok(all)
 }

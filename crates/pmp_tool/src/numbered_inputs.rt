@@ -1,64 +1,50 @@
-//! Inputs whose traces and policies may give addresses by name.
+//! Traces and policies that may give addresses by name.
 
-ghost use Rattle.pmp_names.specs.NameLists.{plain_names};
-ghost use Rattle.pmp_tool.specs.NumberedInputs.{numbered_inputs};
+ghost use Rattle.std.specs.Prelude.{◌≡◌, IfErr, IfOk};
+ghost use Rattle.pmp_text.specs.declared.trace.reader.TheConstants.{MAX_TRACE};
+ghost use Rattle.pmp_tool.specs.Inputs.{AreBytesOf, CantBeOpened, CantBeRead, GivesBytesOf};
+ghost use Rattle.pmp_tool.specs.NumberedInputs.{traces_for};
 
-use crate::hart_script::HartScript;
 use crate::inputs::Inputs;
-use crate::kept::Kept;
-use pmp_names::{AddressName, number_text};
+use crate::naming::Naming;
+use pmp_names::number_text;
 use pmp_text::{InputFault, MAX_TRACE, Refusal};
 use std::alloc::Global;
 
-/// Other inputs. If names of addresses are given, the traces and policies have numbers instead of them.
-pub struct NumberedInputs<'a, 'b, I> {
-    pub alloc: Global,
-    pub inputs: &'a mut I,
-    pub names: Option<&'b [AddressName<'b>]>,
+/// Returns the bytes of the trace or the policy at this path, with numbers instead of names.
+pub fn read_trace<I: Inputs>(
+    alloc: Global,
+    naming: Option<Naming<'_>>,
+    inputs: &mut I,
+    path: &str,
+) -> Result<Vec<u8>, InputFault>
+    ensures read { IfOk result (λ bytes. AreBytesOf (traces_for naming.entry (I.traces inputs.old) path.now) bytes.items) }
+    ensures unread { IfErr result (CantBeRead MAX_TRACE (traces_for naming.entry (I.traces inputs.old) path.now)) }
+    ensures scripts { I.scripts inputs.new ≡ I.scripts inputs.old }
+    ensures traces { I.traces inputs.new ≡ I.traces inputs.old }
+{
+    let text = inputs.trace(path)?;
+    match naming {
+        Some(naming) if text.len() <= MAX_TRACE => Ok(number_text(alloc, naming.names, &text)?),
+        _ => Ok(text),
+    }
 }
 
-impl<I: Inputs> Inputs for NumberedInputs<'_, '_, I> {
-    type Trace = I::Trace;
-
-    ghost scripts = { λ numbered. I.scripts numbered.inputs.now };
-
-    ghost traces = { λ numbered. numbered_inputs (plain_names numbered.names) (I.traces numbered.inputs.now) };
-
-    ghost folders = { λ numbered. I.folders numbered.inputs.now };
-
-    fn script(&mut self, path: &str) -> Result<Vec<u8>, InputFault> {
-        self.inputs.script(path)
-    }
-
-    fn trace(&mut self, path: &str) -> Result<Vec<u8>, InputFault> {
-        let text = self.inputs.trace(path)?;
-        match self.names {
-            Some(names) if text.len() <= MAX_TRACE => Ok(number_text(self.alloc, names, &text)?),
-            _ => Ok(text),
-        }
-    }
-
-    /// A trace that is read little by little has no names.
-    fn open_trace(&mut self, path: &str) -> Result<Self::Trace, InputFault> {
-        match self.names {
-            Some(_) => Err(Refusal::Input),
-            None => self.inputs.open_trace(path),
-        }
-    }
-
-    fn folder(&mut self, path: &str) -> Result<Option<Vec<String>>, InputFault> {
-        self.inputs.folder(path)
-    }
-
-    fn make_folder(&mut self, path: &str, files: &[HartScript]) -> Result<(), Refusal> {
-        self.inputs.make_folder(path, files)
-    }
-
-    fn forget(&mut self) {
-        self.inputs.forget();
-    }
-
-    fn kept(&self) -> &Kept {
-        self.inputs.kept()
+/// Returns a reader of the trace or the log at this path. It can't put numbers instead of names, so none is returned if
+/// names are given: the words of a command never ask for both.
+pub fn open_trace<I: Inputs>(
+    naming: Option<Naming<'_>>,
+    inputs: &mut I,
+    path: &str,
+) -> Result<I::Trace, InputFault>
+    ensures opened { IfOk result (λ reader. GivesBytesOf (traces_for naming.entry (I.traces inputs.old) path.now)
+        (I.Trace.remaining reader)) }
+    ensures unopened { IfErr result CantBeOpened }
+    ensures scripts { I.scripts inputs.new ≡ I.scripts inputs.old }
+    ensures traces { I.traces inputs.new ≡ I.traces inputs.old }
+{
+    match naming {
+        Some(_) => Err(Refusal::Input),
+        None => inputs.open_trace(path),
     }
 }

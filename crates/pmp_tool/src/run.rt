@@ -25,7 +25,6 @@ use crate::harts::Harts;
 use crate::inputs::Inputs;
 use crate::naming::Naming;
 use crate::note::tell_note;
-use crate::numbered_inputs::NumberedInputs;
 use crate::outcome::Outcome;
 use clap::ArgMatches;
 use pmp_names::read_names;
@@ -137,12 +136,7 @@ fn answer_without<R: Threads + Wait + Sync, I: Inputs, O: Write>(
         (I.folders inputs.old) (O.contents out.old) (O.contents out.new) None) }
 {
     let command = read_command(matches, &[])?;
-    let mut numbered = NumberedInputs {
-        alloc,
-        inputs,
-        names: None,
-    };
-    answer_all(rt, alloc, command, None, &mut numbered, out)
+    answer_all(rt, alloc, command, None, inputs, out)
 }
 
 /// Answers it with the names of addresses in the text at this path.
@@ -164,12 +158,7 @@ fn answer_with<R: Threads + Wait + Sync, I: Inputs, O: Write>(
     inputs.forget();
     let command = read_command(matches, &names)?;
     let naming = Naming::of(&names, command.request);
-    let mut numbered = NumberedInputs {
-        alloc,
-        inputs,
-        names: Some(&names),
-    };
-    answer_all(rt, alloc, command, naming, &mut numbered, out)
+    answer_all(rt, alloc, command, Some(naming), inputs, out)
 }
 
 /// Answers a command.

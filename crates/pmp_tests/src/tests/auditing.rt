@@ -2,6 +2,7 @@
 
 use pmp_audit::{AuditFault, Gate, Summary, audit_shared};
 use std::alloc::{AllocError, Global};
+use std::process::Abort;
 use std::sync::Wait;
 use std::sync::atomic::{AtomicBool, AtomicU64, Ordering};
 use std::thread::Threads;
@@ -130,9 +131,9 @@ fn with_faults(faults: u64) -> Result<Summary, AuditFault> {
 /// Each row passes the gate once, by the worker whose turn it is, before that worker's next row, in both rounds. A body
 /// that runs its workers one after another, or fewer of them, fails here: the first waits for the others in vain. So
 /// does one that passes the gate twice for a row, or not at all, or by another worker, or out of order.
-pub fn workers_overlap(rt: HostRuntime) {
+pub fn workers_overlap<R: Threads + Wait + Sync + Abort>(rt: &R, alloc: Global) {
     let gate = Meeting::new();
-    let answer = audit_by_workers(&rt, rt.alloc(), &gate, SECOND - 1);
+    let answer = audit_by_workers(rt, alloc, &gate, SECOND - 1);
     assert!(rt; answer == with_faults(11));
     assert!(rt;
         !gate.missed.load(Ordering::SeqCst),
@@ -167,13 +168,13 @@ impl Gate for Turns {
 }
 
 /// If the gate doesn't wait, workers with few rows take turns: each decides all of its rows before the next one begins.
-pub fn workers_take_turns(rt: HostRuntime) {
+pub fn workers_take_turns<R: Threads + Wait + Sync + Abort>(rt: &R, alloc: Global) {
     let gate = Turns {
         calls: zero(),
         last: zero(),
         is_wrong: AtomicBool::new(false),
     };
-    let answer = audit_by_workers(&rt, rt.alloc(), &gate, ROWS);
+    let answer = audit_by_workers(rt, alloc, &gate, ROWS);
     assert!(rt; answer == with_faults(31));
     assert!(rt; !gate.is_wrong.load(Ordering::SeqCst), "out of turn");
     assert!(rt; gate.calls.load(Ordering::SeqCst) == ROWS);

@@ -3,6 +3,7 @@
 use pmp_audit::{AuditFault, Summary, audit, audit_long};
 use pmp_text::{Refusal, TraceFault};
 use std::alloc::Global;
+use std::process::Abort;
 use std::thread::Threads;
 
 /// One publication: entry 0 lets all modes read a page.
@@ -49,12 +50,12 @@ fn are_rows_of(rows: &[u8], report: &[u8]) -> bool {
 
 /// Wherever pieces end, and with any number of jobs, the audit answers like an audit of the whole trace, unless the
 /// pieces are too short for a line: then whole rows of that answer were written.
-pub fn cuts_show_nowhere(rt: HostRuntime) {
-    let mut whole = Vec::new(rt.alloc());
-    let wanted = audit(rt.alloc(), SCRIPT, TRACE, &mut whole);
+pub fn cuts_show_nowhere<R: Threads + Sync + Abort>(rt: &R, alloc: Global) {
+    let mut whole = Vec::new(alloc);
+    let wanted = audit(alloc, SCRIPT, TRACE, &mut whole);
     for limit in 1..TRACE.len() + 3 {
         for jobs in [1, 3] {
-            let (answer, report) = audit_by_pieces(&rt, rt.alloc(), jobs, limit, TRACE);
+            let (answer, report) = audit_by_pieces(rt, alloc, jobs, limit, TRACE);
             if limit < ROOM && answer == Err(LONG_LINE) {
                 assert!(rt; are_rows_of(&report, &whole));
             } else {
@@ -66,18 +67,18 @@ pub fn cuts_show_nowhere(rt: HostRuntime) {
 
 /// A row that asks for fewer publications than the previous row is refused wherever pieces end, after rows of the
 /// answer to the trace without it.
-pub fn order_goes_over_cuts(rt: HostRuntime) {
+pub fn order_goes_over_cuts<R: Threads + Sync + Abort>(rt: &R, alloc: Global) {
     let order = AuditFault::Trace(TraceFault {
         kind: Refusal::Order,
         row: 5,
         field: Some(0),
     });
-    let mut whole = Vec::new(rt.alloc());
-    let sound = audit(rt.alloc(), SCRIPT, TRACE, &mut whole);
+    let mut whole = Vec::new(alloc);
+    let sound = audit(alloc, SCRIPT, TRACE, &mut whole);
     assert!(rt; sound.is_ok());
     for limit in ROOM..FALLING.len() + 3 {
         for jobs in [1, 3] {
-            let (answer, report) = audit_by_pieces(&rt, rt.alloc(), jobs, limit, FALLING);
+            let (answer, report) = audit_by_pieces(rt, alloc, jobs, limit, FALLING);
             assert!(rt; answer == Err(order));
             assert!(rt; are_rows_of(&report, &whole));
         }

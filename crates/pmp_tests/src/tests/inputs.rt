@@ -37,7 +37,7 @@ impl Read for Failing {
 
 /// A reader that never ends gives one byte above the limit and no more. A failed read isn't tried again: a second try
 /// would find the end, and what was read before would count as the whole.
-pub fn takes_no_more_than_it_needs(rt: HostRuntime) {
+pub fn takes_no_more_than_it_needs<R: Abort>(rt: &R, alloc: Global) {
     for (most, kind, given, reads, fault) in [
         (u64::MAX, ErrorKind::Other, 101, 15, Refusal::TooLong),
         (98, ErrorKind::Other, 98, 15, Refusal::Input),
@@ -51,7 +51,7 @@ pub fn takes_no_more_than_it_needs(rt: HostRuntime) {
             failed: false,
             reads: 0,
         };
-        let answer = read_bytes(rt.alloc(), &mut reader, 100);
+        let answer = read_bytes(alloc, &mut reader, 100);
         assert!(rt; answer.err() == Some(fault));
         assert!(rt; reader.given == given && reader.reads == reads);
     }
@@ -70,24 +70,24 @@ fn line_feeds(rt: &impl Abort, alloc: Global, blocks: usize) -> Vec<u8> {
 }
 
 /// One byte above the limit. Code that looked at the text would report that there is no version, and no header.
-pub fn longer_texts_are_too_long(rt: HostRuntime) {
-    let script = line_feeds(&rt, rt.alloc(), MAX_SCRIPT / 4096);
+pub fn longer_texts_are_too_long<R: Abort>(rt: &R, alloc: Global) {
+    let script = line_feeds(rt, alloc, MAX_SCRIPT / 4096);
     let (kind, word) = (Refusal::TooLong, None);
     assert!(rt;
-        read_script(&mut GrowingLog::new(rt.alloc()), script.as_slice()).err()
+        read_script(&mut GrowingLog::new(alloc), script.as_slice()).err()
             == Some(ScriptFault {
                 kind,
                 line: 0,
                 word
             })
     );
-    let trace = line_feeds(&rt, rt.alloc(), MAX_TRACE / 4096);
+    let trace = line_feeds(rt, alloc, MAX_TRACE / 4096);
     let moments = Moments {
         publications: 0,
         marks: None,
         lasting: None,
     };
     assert!(rt;
-        read_trace(rt.alloc(), trace.as_slice(), &moments).err() == Some(kind.whole().at_row(0))
+        read_trace(alloc, trace.as_slice(), &moments).err() == Some(kind.whole().at_row(0))
     );
 }

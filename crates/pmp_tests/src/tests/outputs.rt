@@ -1,8 +1,10 @@
 //! Writing all bytes to a writer that may fail.
 
 use pmp_text::{OutputFault, write_out};
+use std::alloc::Global;
 use std::io;
 use std::io::{ErrorKind, Write};
+use std::process::Abort;
 
 /// Takes up to seven bytes at a write and holds `room`. After that a write takes none; or it fails, and the next would
 /// take more. The first flush fails, or doesn't.
@@ -44,7 +46,7 @@ const TEXT: &[u8; 22] = b"seven bytes at a write";
 
 /// All bytes are written in as many writes as needed, and flushed once. A write or a flush that fails isn't tried
 /// again: a second try would succeed.
-pub fn writes_a_beginning(rt: HostRuntime) {
+pub fn writes_a_beginning<R: Abort>(rt: &R, alloc: Global) {
     for (room, when_full, fails, calls, want) in [
         (0, None, false, (1, 0), Err(OutputFault)),
         (2, None, false, (2, 0), Err(OutputFault)),
@@ -67,7 +69,7 @@ pub fn writes_a_beginning(rt: HostRuntime) {
         (30, Some(ErrorKind::Other), false, (4, 1), Ok(())),
     ] {
         let mut tight = Tight {
-            held: Vec::new(rt.alloc()),
+            held: Vec::new(alloc),
             room,
             when_full,
             fails,

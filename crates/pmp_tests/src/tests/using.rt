@@ -19,7 +19,7 @@ fn decide_on_one_thread() -> Result<bool, AccessFault> {
     Ok(decision.allowed)
 }
 
-pub fn one_thread_decides(rt: HostRuntime) {
+pub fn one_thread_decides<R: Abort>(rt: &R) {
     assert!(rt; decide_on_one_thread() == Ok(true));
 }
 
@@ -76,15 +76,15 @@ fn follow(rt: &impl Abort, checker: &mut Checker, notice: Notice)
     assert!(rt; value == 0x200001ff && events == 2);
 }
 
-pub fn the_other_hart_learns(rt: HostRuntime) {
-    let (mut publisher, mut checkers) = start(&rt, rt.alloc(), 1).expect(&rt, "memory");
-    let mut checker = checkers.pop().expect(&rt, "a checker");
-    let notice = run_firmware(&rt, &mut publisher).expect(&rt, "memory");
-    follow(&rt, &mut checker, notice);
-    assert!(rt; run_by_ring(rt.alloc(), &mut publisher, &mut checker).is_ok());
+pub fn the_other_hart_learns<R: Wait + Abort>(rt: &R, alloc: Global) {
+    let (mut publisher, mut checkers) = start(rt, alloc, 1).expect(rt, "memory");
+    let mut checker = checkers.pop().expect(rt, "a checker");
+    let notice = run_firmware(rt, &mut publisher).expect(rt, "memory");
+    follow(rt, &mut checker, notice);
+    assert!(rt; run_by_ring(alloc, &mut publisher, &mut checker).is_ok());
     let value = publisher.read(Csr::Addr(0));
     assert!(rt; value == 0x200001ff);
-    let journal = checker.copy_journal().expect(&rt, "memory");
+    let journal = checker.copy_journal().expect(rt, "memory");
     assert!(rt; journal.events().len() == 2);
-    publisher.end(&rt);
+    publisher.end(rt);
 }

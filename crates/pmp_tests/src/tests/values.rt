@@ -4,6 +4,7 @@ ghost use Rattle.std.specs.Prelude.{◌≡◌, ◌↔◌, IsTrue};
 
 use pmp_core::*;
 use pmp_map::Run;
+use std::process::Abort;
 
 /// `==` distinguishes values of these types, and says that equal ones are equal.
 fn are_same_decisions(one: &Decision, other: &Decision) -> bool
@@ -25,7 +26,7 @@ fn are_same_runs(one: &Run, other: &Run) -> bool
 }
 
 /// The defaults with which vectors of fixed capacity are filled.
-pub fn defaults_refuse(rt: HostRuntime) {
+pub fn defaults_refuse<R: Abort>(rt: &R) {
     let refused = Decision {
         allowed: false,
         cause: Cause::NoMatch,

@@ -10,6 +10,9 @@ use super::{ENTRY_ONE, ENTRY_ZERO};
 use pmp_core::{Access, Decision};
 use pmp_share::laws::law_same_events;
 use pmp_share::{Checker, Moved, Notice};
+use std::alloc::Global;
+use std::process::Abort;
+use std::sync::Wait;
 
 /// Decides an access in just the batches that the notice tells of, if no more events are published.
 fn ask(checker: &mut Checker, notice: Notice, access: &Access) -> Result<Decision, Moved>
@@ -45,10 +48,10 @@ pub fn ask_both(
 
 /// An empty batch moves neither on. Where events are published that they weren't told of, both answer how many there
 /// are now.
-pub fn workers_told_alike_decide_alike(rt: HostRuntime) {
-    let mut unit = Unit::start(&rt, rt.alloc());
-    unit.publish(&rt, &ENTRY_ZERO, 2);
-    unit.assert_both_answer(&rt, &[], 2, Ok(by_entry(0)));
-    unit.assert_both_answer(&rt, &ENTRY_ONE, 4, Err(Moved { seen: 4 }));
-    unit.close(&rt);
+pub fn workers_told_alike_decide_alike<R: Wait + Abort>(rt: &R, alloc: Global) {
+    let mut unit = Unit::start(rt, alloc);
+    unit.publish(rt, &ENTRY_ZERO, 2);
+    unit.assert_both_answer(rt, &[], 2, Ok(by_entry(0)));
+    unit.assert_both_answer(rt, &ENTRY_ONE, 4, Err(Moved { seen: 4 }));
+    unit.close(rt);
 }

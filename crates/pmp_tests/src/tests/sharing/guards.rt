@@ -11,12 +11,12 @@ use std::thread;
 use std::thread::Threads;
 
 /// The checker answers what it knew.
-pub fn a_dropped_guard_ends_its_publisher(rt: HostRuntime) {
-    let (mut publisher, mut checker) = unit_of_one(&rt, rt.alloc());
-    publish(&rt, &mut publisher, &ENTRY_ZERO, 2);
-    look(&rt, &mut checker, by_entry(0), 2);
-    drop(PublisherGuard::new(rt, publisher));
-    look(&rt, &mut checker, by_entry(0), 2);
+pub fn a_dropped_guard_ends_its_publisher<R: Wait + Abort + Copy + Drop>(rt: &R, alloc: Global) {
+    let (mut publisher, mut checker) = unit_of_one(rt, alloc);
+    publish(rt, &mut publisher, &ENTRY_ZERO, 2);
+    look(rt, &mut checker, by_entry(0), 2);
+    drop(PublisherGuard::new(*rt, publisher));
+    look(rt, &mut checker, by_entry(0), 2);
     assert!(rt; checker.copy_journal().err() == Some(ShareFault::NoPlace));
 }
 
@@ -60,8 +60,11 @@ fn drop_while_asked<R: Threads + Wait + Abort + Copy + Drop + Send + 'static>(
 
 /// So it is where an error leaves a publisher with a batch that was submitted and not published. A guard that publishes
 /// it before the end shows it for a moment, so this is done again and again.
-pub fn a_dropped_guard_shows_nothing(rt: HostRuntime) {
+pub fn a_dropped_guard_shows_nothing<R: Threads + Wait + Abort + Copy + Drop + Send + 'static>(
+    rt: &R,
+    alloc: Global,
+) {
     for _ in 0..500 {
-        drop_while_asked(&rt, rt.alloc());
+        drop_while_asked(rt, alloc);
     }
 }

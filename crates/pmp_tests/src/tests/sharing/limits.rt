@@ -37,7 +37,7 @@ fn use_all_places<R: Wait + Abort>(rt: &R, alloc: Global, count: u8)
 }
 
 /// A unit is refused here that has a place more or fewer, or keeps the place of a notice that was dropped.
-pub fn so_many_checkers_and_notices_are_out_at_once(rt: HostRuntime) {
-    use_all_places(&rt, rt.alloc(), 1);
-    use_all_places(&rt, rt.alloc(), CHECKERS);
+pub fn so_many_checkers_and_notices_are_out_at_once<R: Wait + Abort>(rt: &R, alloc: Global) {
+    use_all_places(rt, alloc, 1);
+    use_all_places(rt, alloc, CHECKERS);
 }

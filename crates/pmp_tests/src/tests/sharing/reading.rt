@@ -19,13 +19,13 @@ fn unit_of_two<R: Wait + Abort>(rt: &R, alloc: Global) -> (Publisher, Checker, C
 }
 
 /// One that answered of what it looked at last would go on to count 0 events.
-pub fn a_count_looks_without_a_notice(rt: HostRuntime) {
-    let (mut publisher, mut first, mut second) = unit_of_two(&rt, rt.alloc());
+pub fn a_count_looks_without_a_notice<R: Wait + Abort>(rt: &R, alloc: Global) {
+    let (mut publisher, mut first, mut second) = unit_of_two(rt, alloc);
     assert!(rt; first.count() == 2 && first.count() == 2);
     assert!(rt; second.read(Csr::Cfg(0)) == (0x19, 2));
-    publish(&rt, &mut publisher, &ENTRY_ONE, 4);
+    publish(rt, &mut publisher, &ENTRY_ONE, 4);
     assert!(rt; first.read(Csr::Cfg(0)) == (0x1900, 4));
     assert!(rt; second.count() == 4);
-    end(&rt, publisher);
+    end(rt, publisher);
     assert!(rt; first.count() == 4);
 }

@@ -4,7 +4,9 @@ ghost use Rattle.std.specs.Prelude.{◌≡◌};
 
 use super::unit::{end, tell, unit_of_one};
 use pmp_share::{Notice, NoticeSender};
+use std::alloc::Global;
 use std::process::Abort;
+use std::sync::Wait;
 
 /// Sends the notice, for which there is room.
 fn send(rt: &impl Abort, notices: &mut NoticeSender, notice: Notice)
@@ -14,21 +16,21 @@ fn send(rt: &impl Abort, notices: &mut NoticeSender, notice: Notice)
     assert!(rt; notices.send(notice).is_ok());
 }
 
-pub fn a_sender_sees_its_receiver_dropped(rt: HostRuntime) {
-    let (mut publisher, _checker) = unit_of_one(&rt, rt.alloc());
-    let (mut sender, receiver) = publisher.notice_ring(rt.alloc(), 1).expect(&rt, "memory");
+pub fn a_sender_sees_its_receiver_dropped<R: Wait + Abort>(rt: &R, alloc: Global) {
+    let (mut publisher, _checker) = unit_of_one(rt, alloc);
+    let (mut sender, receiver) = publisher.notice_ring(alloc, 1).expect(rt, "memory");
     assert!(rt; !sender.is_abandoned());
     drop(receiver);
     assert!(rt; sender.is_abandoned());
-    end(&rt, publisher);
+    end(rt, publisher);
 }
 
-pub fn a_receiver_sees_its_sender_dropped(rt: HostRuntime) {
-    let (mut publisher, _checker) = unit_of_one(&rt, rt.alloc());
-    let (mut sender, mut receiver) = publisher.notice_ring(rt.alloc(), 1).expect(&rt, "memory");
-    send(&rt, &mut sender, tell(&rt, &mut publisher));
+pub fn a_receiver_sees_its_sender_dropped<R: Wait + Abort>(rt: &R, alloc: Global) {
+    let (mut publisher, _checker) = unit_of_one(rt, alloc);
+    let (mut sender, mut receiver) = publisher.notice_ring(alloc, 1).expect(rt, "memory");
+    send(rt, &mut sender, tell(rt, &mut publisher));
     assert!(rt; !receiver.is_abandoned());
     drop(sender);
     assert!(rt; receiver.is_abandoned() && receiver.receive().is_some());
-    end(&rt, publisher);
+    end(rt, publisher);
 }

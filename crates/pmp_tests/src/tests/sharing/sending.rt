@@ -5,9 +5,11 @@ ghost use Rattle.std.specs.Prelude.{◌≡◌};
 use super::unit::{publish, tell};
 use pmp_core::Event;
 use pmp_share::{Checker, Notice, NoticeReceiver, NoticeSender, PublisherGuard, start};
+use std::alloc::Global;
 use std::process::Abort;
 use std::sync::Wait;
 use std::thread;
+use std::thread::Threads;
 
 /// How many notices are sent to a thread that runs on.
 const NOTICES: u64 = 2_000;
@@ -66,16 +68,19 @@ fn learn_all<R: Wait + Abort>(rt: &R, mut checker: Checker, mut notices: NoticeR
 }
 
 /// Through a ring of two, while the publisher is on a thread. It comes back.
-pub fn each_notice_comes_once_and_in_order(rt: HostRuntime) {
-    let (mut publisher, mut checkers) = start(&rt, rt.alloc(), 1).expect(&rt, "memory");
-    let checker = checkers.pop().expect(&rt, "a checker");
-    let (sender, receiver) = publisher.notice_ring(rt.alloc(), 2).expect(&rt, "a ring");
-    let guard = PublisherGuard::new(rt, publisher);
-    let firmware = move || -> PublisherGuard<HostRuntime>
+pub fn each_notice_comes_once_and_in_order<
+    R: Threads + Wait + Abort + Copy + Drop + Send + 'static,
+>(rt: &R, alloc: Global) {
+    let (mut publisher, mut checkers) = start(rt, alloc, 1).expect(rt, "memory");
+    let checker = checkers.pop().expect(rt, "a checker");
+    let (sender, receiver) = publisher.notice_ring(alloc, 2).expect(rt, "a ring");
+    let guard = PublisherGuard::new(*rt, publisher);
+    let runtime = *rt;
+    let firmware = move || -> PublisherGuard<R>
         requires { sender.unit ≡ guard.unit }
-    { publish_there(rt, guard, sender) };
-    let thread = thread::spawn(&rt, firmware).ok().expect(&rt, "a thread");
-    learn_all(&rt, checker, receiver);
-    let journal = thread.join(&rt).into_publisher().end(&rt);
+    { publish_there(runtime, guard, sender) };
+    let thread = thread::spawn(rt, firmware).ok().expect(rt, "a thread");
+    learn_all(rt, checker, receiver);
+    let journal = thread.join(rt).into_publisher().end(rt);
     assert!(rt; journal.events().len() as u64 == NOTICES);
 }

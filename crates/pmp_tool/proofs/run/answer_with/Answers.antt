@@ -1,4 +1,4 @@
-use Rattle.std.proofs.Common.{map, rules, sym}
+use Rattle.std.proofs.Common.{Some, map, rules, sym}
 use Rattle.std.proofs.KnownBytes.{Keeps-refl}
 use Rattle.std.proofs.lemmas.Result.{IfErr-weaker, IfOk-weaker, err_from_is_err_and}
 use Rattle.pmp_names.specs.NameLists.{named}
@@ -35,7 +35,7 @@ returns-clause-ok g c =
     IfOk-weaker c.answer_all.result _ _
     (λ outcome done. record {
       command = c.in_ok-command.command;
-      naming = c.of-naming.result;
+      naming = Some c.of-naming.result;
       asks = record {
         names = map named c.in_ok-names.names.items;
         are = (text.text.items, text.ensures.read, rw c.deref.ensures.value at c.in_ok-names.ensures.ok);
@@ -52,7 +52,7 @@ returns-clause-err g c =
     let text = c.in_ok-text in
     let forgot = c.forget.ensures in
     IfErr-weaker c.answer_all.result _ _
-    (λ failure fails. undone c.in_ok-command.command c.of-naming.result failure
+    (λ failure fails. undone c.in_ok-command.command (Some c.of-naming.result) failure
     (record {
       names = map named c.in_ok-names.names.items;
       are = (text.text.items, text.ensures.read, rw c.deref.ensures.value at c.in_ok-names.ensures.ok);
