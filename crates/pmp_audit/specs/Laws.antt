@@ -46,7 +46,7 @@ abbrev pub OneEntryListLaw : Type 0
 OneEntryListLaw = (script : List ℕ) (after : Option When) (text other : List ℕ)
     → SaysOfScript IsEntryList script after text → SaysOfScript IsEntryList script after other → text ≡ other
 
--- with no number the entry isn't frozen in the end; with one, it is frozen after the first k batches and after any
+-- without a number, the entry isn't frozen in the end; with k, it is frozen after the first k batches and after more,
 -- with the same configuration and the same bytes
 abbrev pub IsKept : (start : RegisterFile) → List (List Event) → (i : ℕ) → Option ℕ → Type 0
 IsKept start batches i None = is_frozen (file_behind start batches) i ≡ false

@@ -96,7 +96,7 @@ IsFirstOf file IsSo row (Some run) = IsFirstRun file IsSo row run
 abbrev pub IsFirstIn : RegisterFile → PolicyRow → Option Run → Type 0
 IsFirstIn file row = IsFirstOf file (IsBroken file row) row
 
--- the first breach of the states from the one after so many steps to the one after so many: first in time, and then in
+-- the first breach in the states after `from` steps to after `to` steps, both included: first in time, and then in
 -- address
 pub record IsFirstBreach (state : ℕ → RegisterFile) (row : PolicyRow) (from to : ℕ) (breach : Breach) : Type 0 where
   pub after : from ≤ breach.done
@@ -115,7 +115,7 @@ IsFirstNotHeld state row to None = IsFirstOf (state to) (IsNotHeld (state to) ro
 IsFirstNotHeld state row to (Some breach) =
     (breach.done ≡ to) × IsFirstOf (state to) (IsNotHeld (state to) row) row (Some breach.run)
 
--- `held` checks that the bytes are held only if none is open
+-- `held` checks the locks only if no byte is open
 abbrev pub IsVerdictBy : Demand → (state : ℕ → RegisterFile) → PolicyRow → (from to : ℕ) → Option Breach → Type 0
 IsVerdictBy Never state row from to verdict = IsFirstOfAll state row from to verdict
 IsVerdictBy Always state row from to verdict = IsFirstOfAll state row from to verdict
@@ -154,7 +154,7 @@ policy_summary rows verdicts = record {
   bare = position_from (λ row. row.is_bare) 1 rows;
 }
 
--- the script and the policy have these meanings, each row has its verdict, and the text has all verdicts
+-- script and policy have these meanings, each row has its verdict, and the text has them all
 pub record PolicySays (pace : Pace) (script policy : List ℕ) (summary : PolicySummary) (text : List ℕ) : Type 0 where
   pub contents : ScriptContents
   pub script_means : script_meaning script ≡ Ok contents
