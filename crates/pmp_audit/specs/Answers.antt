@@ -24,7 +24,7 @@ module _ {A : Type 0} (Says : A → List ℕ → Type 0) (before after : Option 
     pub says : Says answer text
     pub written : Appends before after text
 
-  -- a prefix of a text was written that belongs to some answer
+  -- a prefix of a text that belongs to some answer was written
   pub record IsCutShort : Type 0 where
     pub answer : A
     pub text : List ℕ

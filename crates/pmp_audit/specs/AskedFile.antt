@@ -24,7 +24,7 @@ HasNone (Some (Labelled label)) script =
     × ((kind : Refusal) × (when_place moments (Labelled label) ≡ Err kind))
 HasNone _ script = ⊥
 
--- the script has these contents, and the publications asked for, and the text is one after those
+-- the script has these contents, with the publications asked for, and the text is one for those
 pub record SaysOfScript (IsTextOf : ScriptContents → (done : ℕ) → List ℕ → Type 0) (script : List ℕ)
     (after : Option When) (text : List ℕ) : Type 0 where
   pub contents : ScriptContents

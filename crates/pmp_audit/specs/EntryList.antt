@@ -1,4 +1,4 @@
--- What a list of entries has.
+-- What a list of entries contains.
 use Rattle.std.specs.Prelude.{ℕ, List, take}
 use Rattle.pmp_text.specs.declared.lines.since.Since.{Since}
 use Rattle.pmp_text.specs.Contents.{ScriptContents}

@@ -33,6 +33,6 @@ PieceFails script records old (Trace fault) = (piece_fault (moments_in script) o
 PieceFails script records old Memory = ⊤
 PieceFails script records old _ = ⊥
 
--- an input without a piece is a fault of the trace
+-- an input that gives no piece is a fault of the trace
 abbrev pub fault_of_cut : Refusal → AuditFault
 fault_of_cut refusal = fault_of_trace (at_row 0 (as_whole refusal))

@@ -13,7 +13,7 @@ LastsFrom holds last (Some first) = (first ≤ last)
     × ((done : ℕ) → first ≤ done → done ≤ last → holds done ≡ true)
     × ((done : ℕ) → done + 1 ≡ first → holds done ≡ false)
 
--- since when MML is set, MMWP is set, and RLB is clear, at the last of so many publications of a script
+-- since when MML is set, MMWP is set, and RLB is clear, up to publication `last` of a script
 pub record AllLast (script : ScriptContents) (last : ℕ) (lasting : Lasting) : Type 0 where
   pub mml : LastsFrom (λ done. (file_of_script script done).mseccfg.mml) last lasting.mml
   pub mmwp : LastsFrom (λ done. (file_of_script script done).mseccfg.mmwp) last lasting.mmwp

@@ -55,7 +55,7 @@ state_after pace script done = file_behind script.start (take done (steps_of pac
 
 -- ---- one state
 
--- by one of the row's modes and kinds the byte is open, or closed
+-- the byte is open, or closed, to one of the row's modes and kinds
 abbrev pub IsFound : (allowed : Bool) → RegisterFile → PolicyRow → (byte : ℕ) → Type 0
 IsFound allowed file row byte =
     (mode : Mode) × (kind : Kind) × (has_mode row.modes mode ≡ true) × (has_kind row.kinds kind ≡ true)

@@ -1,4 +1,4 @@
--- How far a script's replay is.
+-- The position of a script's replay.
 use Rattle.std.specs.Prelude.{ℕ}
 use Rattle.pmp_core.specs.RegisterFile.{RegisterFile}
 use Rattle.pmp_text.specs.Contents.{ScriptContents}

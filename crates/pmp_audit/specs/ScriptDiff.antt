@@ -26,8 +26,8 @@ pub record GivesFile (script : List ℕ) (after : Option When) (file : RegisterF
   pub within : done ≤ length contents.batches
   pub file_is : file ≡ file_of_script contents done
 
--- the text has a row for each longest range of bytes whose files differ in this aspect as asked for, and the rows are
--- counted
+-- the text has a row for each longest range of bytes where the files differ in this aspect as asked for, and the rows
+-- are counted
 pub record ChangesSay (aspect : Aspect) (old new : RegisterFile) (only : Option Only) (rows : ℕ) (text : List ℕ)
     : Type 0 where
   pub runs : List ComparedRun

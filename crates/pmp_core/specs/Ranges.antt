@@ -70,7 +70,7 @@ cause_from start end i (range ∷ ranges) =
 unfoldable pub cause_of : RegisterFile → (start end : ℕ) → Cause
 cause_of file start end = cause_from start end 0 (ranges_of file)
 
--- what the mode may do for this cause
+-- the mode's rights by this cause
 abbrev pub rights_by : RegisterFile → Mode → Cause → Rights
 rights_by file mode (Rule i) = rights file i mode
 rights_by file mode (Split i) = nothing

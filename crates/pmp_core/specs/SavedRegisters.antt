@@ -53,7 +53,7 @@ spells_hart number =
 unfoldable pub names_hart : (number : ℕ) → Bool
 names_hart number = number == ENTRIES || number == MAX_ENTRIES || spells_hart number
 
--- the hart that a number stands for: the one that it encodes; else the usual one, with 64 entries for 64 and else 16
+-- the hart of a number: the one that it encodes; else the usual one, with 64 entries for 64 and else 16
 unfoldable pub saved_hart : (number : ℕ) → Profile
 saved_hart number =
     if spells_hart number then spelled_hart number

@@ -1,4 +1,4 @@
--- A hart with more entries decides the same (Volume II, 3.7.1).
+-- A hart with more, unused entries decides the same (Volume II, 3.7.1).
 use Rattle.std.specs.Prelude.{◌≡◌, ◌↔◌, ℕ, ◌*◌, ◌<◌, ◌≤◌, nat_lt, ◌==◌, ◌||◌, Bool, true, List}
 use Rattle.std.specs.List.{list_all, range_with_len}
 use Rattle.pmp_core.specs.declared.access.Access.{Access}

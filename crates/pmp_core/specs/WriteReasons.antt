@@ -39,11 +39,11 @@ is_changed file (Addr k) value i =
 is_changed file Mseccfg value i = false
 is_changed file Mseccfgh value i = false
 
--- the write changes a frozen entry (3.7.1.2)
+-- the write would change a frozen entry (3.7.1.2)
 abbrev pub changes_frozen : RegisterFile → Csr → (value i : ℕ) → Bool
 changes_frozen file csr value i = is_frozen file i && is_changed file csr value i
 
--- the write changes the low bound of a frozen TOR entry, and the entry before isn't frozen (3.7.1.2)
+-- the write would change the low bound of a frozen TOR entry, and the entry before isn't frozen (3.7.1.2)
 abbrev pub is_low_end : RegisterFile → Csr → (value i : ℕ) → Bool
 is_low_end file (Cfg q) value i = false
 is_low_end file (Addr k) value i =
@@ -51,7 +51,7 @@ is_low_end file (Addr k) value i =
 is_low_end file Mseccfg value i = false
 is_low_end file Mseccfgh value i = false
 
--- W without R is written to an entry that isn't frozen, and MML is 0 (3.7.1)
+-- W without R would be stored in an entry that isn't frozen, and MML is 0 (3.7.1)
 abbrev pub adds_reserved : RegisterFile → Csr → (value i : ℕ) → Bool
 adds_reserved file (Cfg q) value i =
     holds_byte_of file.profile q i && not (is_frozen file i) && not file.mseccfg.mml
@@ -60,7 +60,7 @@ adds_reserved file (Addr k) value i = false
 adds_reserved file Mseccfg value i = false
 adds_reserved file Mseccfgh value i = false
 
--- a barred rule is written to an entry that isn't frozen, MML is 1 and RLB is 0 (Smepmp)
+-- a barred rule would be stored in an entry that isn't frozen, MML is 1 and RLB is 0 (Smepmp)
 abbrev pub adds_barred : RegisterFile → Csr → (value i : ℕ) → Bool
 adds_barred file (Cfg q) value i =
     let new = configuration_of (byte_for q value i) in
@@ -129,7 +129,7 @@ has_other_bits profile (Addr i) value = not (value / word_addresses profile == 0
 has_other_bits profile Mseccfg value = profile.has_smepmp && not (value / 8 == 0)
 has_other_bits profile Mseccfgh value = not (value == 0) && (profile.has_smepmp && profile.is_rv32)
 
--- the write clears MML or MMWP (Smepmp)
+-- the write would clear MML or MMWP (Smepmp)
 abbrev pub clears_sticky : MseccfgFields → Csr → (value : ℕ) → Bool
 clears_sticky mseccfg (Cfg q) value = false
 clears_sticky mseccfg (Addr i) value = false
@@ -138,7 +138,7 @@ clears_sticky mseccfg Mseccfg value =
     (mseccfg.mml && not new.mml) || (mseccfg.mmwp && not new.mmwp)
 clears_sticky mseccfg Mseccfgh value = false
 
--- the write sets RLB while some entry is locked, on a hart with mseccfg (Smepmp)
+-- the write would set RLB while some entry is locked, on a hart with mseccfg (Smepmp)
 abbrev pub sets_bypass : RegisterFile → Csr → (value : ℕ) → Bool
 sets_bypass file (Cfg q) value = false
 sets_bypass file (Addr i) value = false
@@ -167,7 +167,7 @@ is_reason Grain file csr value = is_some_entry_reason Grain file csr value
 abbrev pub write_reasons : RegisterFile → Csr → (value : ℕ) → List WriteReason
 write_reasons file csr value = filter (λ reason. is_reason reason file csr value) all_reasons
 
--- a bit for each test that holds, the first test lowest
+-- a bit for each test that holds, the lowest for the first
 unfoldable pub bits_of : List Bool → ℕ
 bits_of [] = 0
 bits_of (b ∷ bs) = bit_of b + 2 * bits_of bs

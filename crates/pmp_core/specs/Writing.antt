@@ -7,7 +7,7 @@ use Rattle.pmp_core.specs.RegisterWrite.{written}
 use Rattle.pmp_core.specs.SavedRegisters.{IsCanonical, restored_file}
 use Rattle.pmp_core.specs.WriteReasons.{reasons_of}
 
--- they encode the file after the write, and stay as they are if that is the same
+-- they encode the file after the write, and are unchanged if it is the same
 pub record IsStored (old new : SavedRegisters) (csr : Csr) (value : ℕ) (is_changed : Bool) : Type 0 where
   pub file : restored_file new ≡ written (restored_file old) csr value
   pub canonical : IsCanonical old → IsCanonical new

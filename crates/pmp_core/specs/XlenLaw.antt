@@ -1,4 +1,4 @@
--- An RV32 hart decides as an RV64 hart that is given the same bytes (Volume II, 3.7.1).
+-- An RV32 hart decides like an RV64 hart that is given the same bytes (Volume II, 3.7.1).
 use Rattle.std.specs.Prelude.{◌≡◌, ◌+◌, ◌/◌, ◌%◌, ◌^◌, ◌==◌, if◌then◌else◌, true, false, List, [], ◌∷◌}
 use Rattle.std.specs.List.{flat_map}
 use Rattle.pmp_core.specs.declared.access.Access.{Access}
@@ -10,7 +10,7 @@ use Rattle.pmp_core.specs.Histories.{replay}
 use Rattle.pmp_core.specs.RegisterFile.{RegisterFile}
 use Rattle.pmp_core.specs.SizeLaw.{DecideAlike}
 
--- what writes on RV32 the bytes that an event writes on RV64, where an even pmpcfg has those of two registers
+-- the RV32 writes of the same bytes as an RV64 event, whose even pmpcfg has those of two registers
 abbrev pub on_rv32 : Event → List Event
 on_rv32 (Write (Cfg q) value) =
     if q % 2 == 0 then Write (Cfg q) (value % 2 ^ 32) ∷ Write (Cfg (q + 1)) (value / 2 ^ 32) ∷ [] else []

@@ -28,7 +28,7 @@ decision_by file owner access = record {
   cause = whole_cause owner;
 }
 
--- the rights of M-mode, and of S-mode and U-mode, which are equal, where this entry is the owner, or none is
+-- the rights of M-mode, and of S-mode and U-mode, which are equal, if this entry is the owner, or none is
 abbrev pub rights_by : RegisterFile → Option ℕ → ModeRights
 rights_by file owner = record {
   machine = perms_of (owned_rights file owner M);

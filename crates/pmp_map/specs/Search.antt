@@ -16,7 +16,7 @@ IsRising starts = (i j : ℕ) → i ≤ j → j < PLACES → slice_index starts 
 abbrev pub IsBetween : (starts : List ℕ) (byte low width : ℕ) → Type 0
 IsBetween starts byte low width = (slice_index starts low ≤ byte) × (byte < slice_index starts (low + width))
 
--- the starts of so many runs rise, and the byte is between the first and the last of those searched
+-- the starts rise, and the byte is between the first and the last of those searched for this many runs
 pub record IsWithin (starts : List ℕ) (runs byte : ℕ) : Type 0 where
   pub rising : IsRising starts
   pub whole : IsBetween starts byte 0 (PLACES - 1)

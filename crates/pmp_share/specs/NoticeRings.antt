@@ -32,7 +32,7 @@ pub record ReceiverToken : Type 0 where
   pub received : List Known
   pub waiting : List Known
 
--- both ends of a new ring, with room for so many notices of the unit
+-- both ends of a new ring, with room for `room` notices of the unit
 pub record IsNewRing (unit : UnitId) (room : ℕ) (sender : SenderToken) (receiver : ReceiverToken) : Type 0 where
   pub one : receiver.ring ≡ sender.ring
   pub units : (sender.unit ≡ unit) × (receiver.unit ≡ unit)
@@ -59,7 +59,7 @@ abbrev pub Began : List Known → UnitId → Type 0
 Began [] unit = ⊥
 Began (first ∷ notices) unit = first.unit ≡ unit
 
--- a notice has the unit of the first before it
+-- a notice's unit is that of the first notice before it
 abbrev pub FollowsFirst : List Known → Known → Type 0
 FollowsFirst [] notice = Unit {0}
 FollowsFirst (first ∷ notices) notice = notice.unit ≡ first.unit
