@@ -70,7 +70,7 @@ adds_barred file (Addr k) value i = false
 adds_barred file Mseccfg value i = false
 adds_barred file Mseccfgh value i = false
 
--- NA4 is written to an entry that isn't frozen, or an address that doesn't read as written under the entry's A, and the
+-- NA4 would be stored in an entry that isn't frozen, or an address wouldn't read as written by the entry's A, and the
 -- grain is above four bytes (3.7.1.1)
 abbrev pub is_too_fine : RegisterFile → Csr → (value i : ℕ) → Bool
 is_too_fine file (Cfg q) value i =

@@ -51,7 +51,7 @@ head_text given =
     ++ (number_line (codes "grain") given.grain ++ (number_line (codes "bits") given.bits
     ++ (smepmp_line given.has_smepmp ++ mark_line (codes "start"))))))))))
 
--- ---- the script's lines for a line
+-- ---- the script lines for a log line
 
 -- `0x` and as few digits as the value has
 abbrev pub hex_text : ℕ → List ℕ
@@ -140,7 +140,7 @@ reset_text walk = publish_if (is_open walk) ++ (if walk.is_used
     then source_line walk.line ++ (codes "reset" ++ 10 ∷ (codes "publish" ++ 10 ∷ mark_line (reset_name walk.reset)))
     else [])
 
--- the script's lines for a line; any line but a write ends a burst
+-- the script lines for a log line; any but a write ends a burst
 abbrev pub said_text : Given → Walk → Said → List ℕ
 said_text given walk (Register told) =
     if is_of_hart given walk told then told_text given walk told else publish_if (is_open walk)
@@ -198,7 +198,7 @@ line_of given walk line = elim (line_said given.format line) [
 abbrev pub at : (line : ℕ) → Refusal → ImportFault
 at line refusal = record { kind = refusal; line = line }
 
--- the input gives no more lines: one that is too long is the next
+-- no more lines can be read: if one is too long, it is the next one
 abbrev pub stop_at : (line : ℕ) → Refusal → ImportFault
 stop_at line TooLong = at line TooLong
 stop_at line refusal = at 0 refusal

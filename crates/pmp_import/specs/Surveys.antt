@@ -121,7 +121,7 @@ survey_fault is_rv32 survey = option_or
       | false ↦ option_map (λ line. at line OddCfg) survey.of_rv32
     ]) (if survey.own == 0 then Some (at 0 NoHart) else None)
 
--- what is asked for, and this hart
+-- what is given for this hart, with the options
 abbrev pub given_of : Format → Options → (hart : ℕ) → (is_rv32 : Bool) → (entries : ℕ) → Given
 given_of format options hart is_rv32 entries = record {
   format = format;

@@ -19,7 +19,7 @@ pub record Happening : Type 0 where
 abbrev pub file_after : Happening → RegisterFile
 file_after it = step it.before it.event
 
--- these events from this file on; the first is on line k of these
+-- these events from this file on; the first has line number k of these
 abbrev pub happenings_from : (k : ℕ) → RegisterFile → List Event → (lines : List ℕ) → List Happening
 happenings_from k file [] lines = []
 happenings_from k file (event ∷ events) lines =
@@ -68,6 +68,6 @@ last_or other (x ∷ xs) = last_or x xs
 abbrev pub changing_lines : Subject → List Happening → List ℕ
 changing_lines subject all = map (λ it. it.line) (filter (changes subject) all)
 
--- the line of the last event of the first `count` publications that changes it, or 0
+-- the line of the last event that changes it, of the first `count` publications, or 0
 abbrev pub changed_at : ScriptContents → (count : ℕ) → Subject → ℕ
 changed_at script count subject = last_or 0 (changing_lines subject (happenings script count))

@@ -37,7 +37,7 @@ AreApart one other = (byte : ℕ) → is_in byte one ≡ true → is_in byte oth
 abbrev pub HaveCommonByte : PlanRow → PlanRow → Type 0
 HaveCommonByte one other = (byte : ℕ) × (is_in byte one ≡ true) × (is_in byte other ≡ true)
 
--- the rows with these indexes have one
+-- the rows with these indexes have a byte in common
 pub record AreOverlapping (rows : List PlanRow) (row other : ℕ) : Type 0 where
   pub order : row < other
   pub byte : ℕ
@@ -73,13 +73,13 @@ pub record IsSound (hart : Profile) (security : Security) (rows : List PlanRow) 
   pub kept : hart.has_smepmp ≡ false → security ≡ no_security
   pub ruled : All (λ row. HasRule security row.demand) rows
 
--- after writes to the hart from reset, the registers meet the plan
+-- some writes to the hart after reset lead to registers that meet the plan
 abbrev pub CanMeet : Profile → Security → List PlanRow → Type 0
 CanMeet hart security rows = (writes : List Event) × MeetsPlan hart security rows (replay hart writes)
 
 -- the rows have this fault; no rule gives what a row asks; the hart has no mseccfg, though a bit of it is asked for; a
 -- sound plan takes more entries than the hart has, and so many meet it, if a hart can have so many; or no entries were
--- found for a sound plan with rows. Running out of memory says nothing about the plan
+-- were found for a sound plan with rows. Running out of memory says nothing about the plan
 abbrev pub Refuses : Profile → Security → List PlanRow → PlanFault → Type 0
 Refuses hart security rows (fault.Overlap row other) = AreOverlapping rows row other
 Refuses hart security rows (fault.TooFine number field) =

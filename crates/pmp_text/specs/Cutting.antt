@@ -44,7 +44,7 @@ pub record IsLast (limit : ℕ) (held : List ℕ) (old new : Option (List ℕ)) 
   pub ended : IsAtEnd new
   pub short : length piece ≤ limit
 
--- as many bytes as can be buffered, less one, have no line end
+-- at least `limit` - 1 bytes in a row have no line end
 pub record IsUncut (limit : ℕ) (held : List ℕ) (old new : Option (List ℕ)) : Type 0 where
   pub taken : List ℕ
   pub consumed : Consumes old new taken

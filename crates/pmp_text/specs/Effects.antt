@@ -41,7 +41,7 @@ value_text value = codes "0x" ++ hex_text VALUE_DIGITS value
 abbrev pub reasons_text : RegisterFile → Csr → (value : ℕ) → List ℕ
 reasons_text file csr value = join_with_byte 32 (map reason_text (write_reasons file csr value))
 
--- the entries that are a reason, ascending, separated by one space
+-- the entries with reasons, ascending, separated by one space
 abbrev pub entries_text : RegisterFile → Csr → (value : ℕ) → List ℕ
 entries_text file csr value = join_with_byte 32 (map decimal (entries_with_reasons file csr value))
 

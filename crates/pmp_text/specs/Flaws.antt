@@ -22,12 +22,12 @@ at_line number flaw = record { kind = flaw.kind; line = number; word = flaw.part
 abbrev pub at_row : ℕ → Flaw → TraceFault
 at_row number flaw = record { kind = flaw.kind; row = number; field = flaw.part }
 
--- what follows from the field with this index, which is at fault if it is none
+-- the result for the field with this index, which is at fault if it can't be read
 abbrev pub of_part : {X Y : Type 0} → (index : ℕ) → (says : Option X) → (X → Result Y Flaw) → Result Y Flaw
 of_part index None next = Err (part index BadRow)
 of_part index (Some x) next = next x
 
--- the same if the field has its own refusal
+-- the same if reading the field gives its own refusal
 abbrev pub in_part : {X Y : Type 0} → (index : ℕ) → Result X Refusal → (X → Result Y Flaw) → Result Y Flaw
 in_part index (Err kind) next = Err (part index kind)
 in_part index (Ok x) next = next x

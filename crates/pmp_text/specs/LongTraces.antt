@@ -27,7 +27,7 @@ abbrev pub long_rows_meaning : KnownMoments → (first : ℕ) → Records → Re
 long_rows_meaning moments first rows =
     fault_or_rows (first_row_fault moments None first rows) (filter_map (row_of_record moments) rows)
 
--- what the records of a trace of any length mean: from 1 on, the same as for a text within the limit
+-- what the records of a trace of any length mean: numbered from 1, as those of a text within the limit
 abbrev pub long_meaning : KnownMoments → (first : ℕ) → Records → Result (List RowFields) TraceFault
 long_meaning moments first = behind_header is_header (long_rows_meaning moments first)
 

@@ -19,6 +19,6 @@ numeral radix most bytes = if is_numeral radix most bytes && nat_lt (digits_valu
 abbrev pub word_number : List ℕ → Option ℕ
 word_number word = if bytes_eq (take 2 word) (codes "0x") then numeral 16 16 (drop 2 word) else numeral 10 20 word
 
--- a number with as many digits as rows have for an address in hexadecimal, and like those without `0x`
+-- a number of 14 digits without `0x`, as rows have for hexadecimal addresses
 abbrev pub is_bare : List ℕ → Bool
 is_bare word = (length word == 14) && not (bytes_eq (take 2 word) (codes "0x"))

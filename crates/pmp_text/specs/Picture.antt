@@ -113,7 +113,7 @@ settings_line lockdown policy bypass =
 abbrev pub settings : MseccfgFields → List ℕ
 settings mseccfg = settings_line (switch_text mseccfg.mml) (switch_text mseccfg.mmwp) (switch_text mseccfg.rlb)
 
--- all above the bands
+-- everything above the bands
 unfoldable pub head : RegisterFile → (publications bands : ℕ) → List ℕ
 head file publications bands =
     opening bands ++ (spoken_title publications ++ (style ++ (large_title publications

@@ -81,7 +81,7 @@ at_least least (Some number) = if nat_le least number then Some number else None
 
 -- ---- one row
 
--- the fields of a record of seven
+-- a record's seven fields
 pub record SevenFields : Type 0 where
   pub from : List ℕ
   pub to : List ℕ
@@ -103,7 +103,7 @@ seven_fields (from ∷ to ∷ modes ∷ kind ∷ first ∷ last ∷ demand ∷ [
 })
 seven_fields _ = None
 
--- the fields of a record of nine: those seven between a name and a comment
+-- a record's nine fields: those seven between a name and a comment
 pub record NineFields : Type 0 where
   pub name : List ℕ
   pub words : SevenFields

@@ -18,7 +18,7 @@ use Rattle.pmp_text.specs.Numbers.{is_bare, word_number}
 use Rattle.pmp_text.specs.Tables.{behind_header, fault_or_rows, is_broken, within_limit}
 use Rattle.pmp_text.specs.Flaws.{at_row, in_part, of_part, part, as_whole}
 
--- the fields of a record of five
+-- a record's five fields
 pub record FiveFields : Type 0 where
   pub after : List ℕ
   pub mode : List ℕ

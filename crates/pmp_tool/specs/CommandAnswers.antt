@@ -43,9 +43,9 @@ CommandFails scripts traces command before after =
     IsUnscripted before after (scripts command.script.now) (old_side command.request) command.request
     (λ script. RequestFails before after scripts traces script command.request)
 
--- status 0: a check with the expected answer, a why of an allowed access, an audit with all accesses allowed, a policy
--- with no row broken, writes all stored as written with all expectations met, a comparison or a lint without rows, and
--- all else
+-- status 0: a check with the expected answer, a `why` with an access allowed, an audit with all accesses allowed, a
+-- policy with no row broken, writes all stored as written with all expectations met, a comparison or a lint without
+-- rows, and all else
 abbrev pub outcome_status : Outcome → ℕ
 outcome_status (Decided decision asked) = if is_met asked.expected decision then 0 else 1
 outcome_status (Explained decision is_bare) = if decision.allowed then 0 else 1

@@ -26,7 +26,7 @@ abbrev pub compares_locks : Request → Bool
 compares_locks (request.Harts has_locks) = has_locks
 compares_locks _ = false
 
--- all bytes of the first hart's script, and of each hart's script in the folder
+-- a comparison of all bytes, of the first hart's script with each hart's in the folder
 abbrev pub compared_with : (first : Text) (has_locks : Bool) → Asked → Asked
 compared_with first has_locks asked = record {
   script = path_on true asked.script first;

@@ -142,7 +142,7 @@ abbrev pub worst : List HartAnswer → Outcome
 worst answers = fold (λ outcome answer. worse outcome answer.outcome) Listed answers
 
 module _ (scripts traces : Inputs) (command : Command) (harts : Harts) where
-  -- all harts but the rest, which are last, were answered
+  -- the harts before `rest` were answered
   pub record AreAnswered (rest : List Text) (answers : List HartAnswer) : Type 0 where
     pub each : All (IsAnswered scripts traces command harts) answers
     pub names : names_of harts.names.items ≡ map (λ answer. answer.name) answers ++ rest

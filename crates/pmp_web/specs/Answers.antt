@@ -63,7 +63,7 @@ pub record IsUnasked (refusal : Refusal) (status : ℕ) (answer : Answer) : Type
   pub line : answer.line ≡ 0
   pub empty : text_in answer ≡ []
 
--- the room holds a text that fulfills Says, and no line is at fault, or the call refuses
+-- the room holds a text that satisfies Says, and no line is at fault, or the call refuses
 abbrev pub Answers : (Says : List ℕ → Type 0) → (Refuses : AuditFault → Type 0) → (status : ℕ) → Answer → Type 0
 Answers Says Refuses status answer =
     ((status ≡ 0) × (answer.line ≡ 0) × Says (text_in answer)) ⊎ IsRefusal Refuses status answer
