@@ -19,7 +19,7 @@ pub record IsStateOf (states : ℕ → RegisterFile) (state : State) : Type 0 wh
   pub file : state.file ≡ states state.done
   pub moved : (before : ℕ) → before + 1 ≡ state.done → AreAlikeBeside (states before) state.file state.moved
 
--- the first breach in the states before the one after `done` steps, or none
+-- the first breach of all, or none in the states before the one after `done` steps
 abbrev pub IsFirstSoFar : (states : ℕ → RegisterFile) → PolicyRow → (from to done : ℕ) → Option Breach → Type 0
 IsFirstSoFar states row from to done None = (k : ℕ) → from ≤ k → k < done → IsFirstIn (states k) row None
 IsFirstSoFar states row from to done (Some breach) = IsFirstBreach states row from to breach

@@ -72,7 +72,7 @@ moved_among one other first zero = None
 moved_among one other first (suc count) =
     joined (moved_among one other first count) (moved_at one other (first + count))
 
--- by a write: the entries in pmpcfg, a pmpaddr's entry and the next, whose low bound it is (3.7.1.1), or all bytes
+-- by a write: pmpcfg's entries; pmpaddr's entry and the next, whose low bound it is (3.7.1.1); all if mseccfg changes
 unfoldable pub moved_by : (one other : RegisterFile) → Csr → Option Span
 moved_by one other (Cfg q) = moved_among one other (4 * q) (bytes_in one.profile q)
 moved_by one other (Addr i) = moved_among one other i 2

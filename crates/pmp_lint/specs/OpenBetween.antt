@@ -19,7 +19,7 @@ use Rattle.pmp_lint.specs.EndState.{found_if}
 use Rattle.pmp_lint.specs.Events.{Happening, file_after, happenings_in}
 use Rattle.pmp_lint.specs.Findings.{supervisor_and_user}
 
--- something is allowed in between, and neither before nor after
+-- a kind is allowed in between, and neither before nor after
 abbrev pub opens_kind : (before during after : Perms) → Kind → Bool
 opens_kind before during after kind =
     has_right during kind && (not (has_right before kind) && not (has_right after kind))

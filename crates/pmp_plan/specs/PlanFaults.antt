@@ -78,8 +78,8 @@ abbrev pub CanMeet : Profile → Security → List PlanRow → Type 0
 CanMeet hart security rows = (writes : List Event) × MeetsPlan hart security rows (replay hart writes)
 
 -- the rows have this fault; no rule gives what a row asks; the hart has no mseccfg, though a bit of it is asked for; a
--- sound plan takes more entries than the hart has, and so many meet it, if a hart can have so many; or no entries were
--- were found for a sound plan with rows. Running out of memory says nothing about the plan
+-- sound plan takes `found` entries, more than the hart has, and that many suffice if a hart can have them; or no
+-- entries were found for a sound plan with rows. Running out of memory says nothing about the plan
 abbrev pub Refuses : Profile → Security → List PlanRow → PlanFault → Type 0
 Refuses hart security rows (fault.Overlap row other) = AreOverlapping rows row other
 Refuses hart security rows (fault.TooFine number field) =

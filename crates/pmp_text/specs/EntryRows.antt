@@ -56,7 +56,7 @@ entry_row file i span since =
     ∷ rights_text (rights file i M) ∷ rights_text (rights file i U) ∷ lock_text (lock_of file i)
     ∷ address_text (is_address_frozen file i) ∷ since_text since ∷ [])
 
--- a row for each entry, with what the list has for it
+-- a row for each entry, with the list's value for it
 pub record IsEntryText (file : RegisterFile) (since : List Since) (text : List ℕ) : Type 0 where
   pub span : ℕ → Option Span
   pub spans : (i : ℕ) → i < length file.entries → IsSpan file i (span i)

@@ -230,6 +230,6 @@ started lines expectations = elim (bits_fault lines) [
   | None ↦ elim (fault_on (start_said lines) lines expectations) [ Some fault ↦ Err fault | None ↦ Ok (start_said lines) ]
 ]
 
--- how many entries are shown of a unit
+-- how many of a unit's entries are shown
 abbrev pub size_for : RegisterFile → Size
 size_for file = if nat_lt ENTRIES file.profile.entries then SixtyFour else Sixteen

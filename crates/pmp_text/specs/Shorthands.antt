@@ -115,7 +115,7 @@ range_said number matching (first ∷ second ∷ rights ∷ lock) =
     }))))
 range_said number matching _ = in_part 2 (matching_said matching) (λ _. Err (as_whole BadLine))
 
--- an entry that is off has no right and no lock
+-- an entry that is OFF has no rights and no lock
 abbrev pub off_said : (number : List ℕ) → List (List ℕ) → Result EntryLine Flaw
 off_said number [] = in_part 1 (entry_said number) (λ number. Ok (record {
   number = number;
