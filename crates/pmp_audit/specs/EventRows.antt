@@ -9,7 +9,7 @@ use Rattle.pmp_audit.specs.WriteList.{PlacedEvent, is_not_stored}
 abbrev pub file_left : RegisterFile → List PlacedEvent → RegisterFile
 file_left file events = fold step file (map (λ it. it.event) events)
 
--- the rows of events, numbered from `number`, starting from this file
+-- the rows of events from this number and this file on
 abbrev pub rows_from : (number : ℕ) → RegisterFile → List PlacedEvent → List ℕ
 rows_from number file [] = []
 rows_from number file (it ∷ rest) =

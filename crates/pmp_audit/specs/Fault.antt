@@ -21,7 +21,7 @@ fault_of_script fault = unless_memory fault.kind (Script fault)
 abbrev pub fault_of_trace : TraceFault → AuditFault
 fault_of_trace fault = unless_memory fault.kind (Trace fault)
 
--- a policy's faults have the form of a trace's
+-- a policy has the same faults as a trace
 abbrev pub fault_of_policy : TraceFault → AuditFault
 fault_of_policy fault = unless_memory fault.kind (Policy fault)
 

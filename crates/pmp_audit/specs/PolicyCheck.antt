@@ -154,7 +154,7 @@ policy_summary rows verdicts = record {
   bare = position_from (λ row. row.is_bare) 1 rows;
 }
 
--- script and policy have these meanings, each row has its verdict, and the text has them all
+-- script and policy mean this, each row has its verdict, and the text has them all
 pub record PolicySays (pace : Pace) (script policy : List ℕ) (summary : PolicySummary) (text : List ℕ) : Type 0 where
   pub contents : ScriptContents
   pub script_means : script_meaning script ≡ Ok contents

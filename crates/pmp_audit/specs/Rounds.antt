@@ -18,7 +18,7 @@ use Rattle.pmp_audit.specs.declared.shared_audit.job.Job.{Job}
 use Rattle.pmp_audit.specs.declared.shared_audit.job.Done.{Done}
 use Rattle.pmp_audit.specs.Working.{IsDealt, IsDone, StopsRound}
 
--- the first rows, as long as they ask for exactly `after` publications
+-- the leading rows that ask for exactly `after` publications
 abbrev pub asking : (after : ℕ) → List Row → List Row
 asking after [] = []
 asking after (row ∷ rows) = if row.after == after then row ∷ asking after rows else []

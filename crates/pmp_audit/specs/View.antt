@@ -20,6 +20,6 @@ IsViewText Runs script done text = IsMapText (file_of_script script done) text
 IsViewText Picture script done text = IsPicture (file_of_script script done) done text
 IsViewText Entries script done text = IsEntryList script done text
 
--- it is a view after the publications asked for
+-- it is after as many as are asked for
 abbrev pub ViewSays : View → (script : List ℕ) → (after : Option When) → Unit {0} → (text : List ℕ) → Type 0
 ViewSays view script after _ text = SaysOfScript (IsViewText view) script after text

@@ -90,7 +90,7 @@ machine_default false false = rwx
 machine_default true false = rw
 machine_default _ true = nothing
 
--- for S-mode and U-mode: everything on a hart without entries, else nothing (3.7.1.3)
+-- for S-mode and U-mode: all on a hart without entries, else none (3.7.1.3)
 abbrev pub others_default : (has_entries : Bool) → Rights
 others_default true = nothing
 others_default false = rwx

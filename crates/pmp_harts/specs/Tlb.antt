@@ -4,7 +4,7 @@ use Rattle.pmp_harts.specs.declared.hart.Page.{Page}
 use Rattle.pmp_share.specs.declared.knowledge.Known.{Known}
 use Rattle.pmp_share.specs.Batches.{StartsWith}
 
--- the batches that the page's rights are from are a prefix of those that the checker knows, in one unit
+-- the page's rights are from a prefix of the batches that the checker knows, in one unit
 abbrev pub IsBehind : Known → Page → Type 0
 IsBehind known page = (page.seen.value.unit ≡ known.unit) × StartsWith known.list page.seen.value.list
 

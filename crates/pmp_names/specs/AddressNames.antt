@@ -136,7 +136,7 @@ abbrev pub names_between : List Named → (first last : Option ℕ) → List ℕ
 names_between names (Some first) (Some last) = met_names names first last
 names_between names first last = []
 
--- a row with names: its fields with these indexes are the first and the last byte address of a range
+-- a row with names; the fields with these numbers are its range's first and last byte address
 abbrev pub with_names : List Named → Columns → (row : List ℕ) → List ℕ
 with_names names columns row =
     row ++ (codes "," ++ (names_between names (address_at columns.first row) (address_at columns.last row) ++ codes "\n"))

@@ -43,7 +43,7 @@ key_from is_open digits (byte ∷ rest) =
     else codes "1" ++ key_from true (digits ++ byte ∷ []) rest)
     else number_end is_open digits ++ byte ∷ key_from false [] rest
 
--- the key by which a name is ordered
+-- a name's sort key
 abbrev pub order_key : (name : List ℕ) → List ℕ
 order_key name = key_from false [] name
 

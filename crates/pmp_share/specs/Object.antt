@@ -7,7 +7,7 @@ use Rattle.pmp_core.specs.Decision.{IsDecision}
 use Rattle.pmp_core.specs.RegisterFile.{RegisterFile}
 use Rattle.pmp_share.specs.Batches.{Batches, file_from}
 
--- the initial state
+-- initially
 abbrev pub no_batches : Batches
 no_batches = []
 

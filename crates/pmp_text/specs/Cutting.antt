@@ -21,7 +21,7 @@ pub record IsFilled (limit : ℕ) (held : List ℕ) (old new : Option (List ℕ)
   pub ended : at_end ≡ true → IsAtEnd new
   pub full : at_end ≡ false → length filled ≡ limit
 
--- a piece of at most `limit` bytes ends with a line end, with which the bytes buffered after it begin too
+-- a piece of at most `limit` bytes ends with a line end, which also begins what is buffered after it
 pub record IsFront (limit : ℕ) (held : List ℕ) (old new : Option (List ℕ)) (left piece : List ℕ) : Type 0 where
   pub taken : List ℕ
   pub consumed : Consumes old new taken

@@ -19,7 +19,7 @@ pub record IsLeastFault {F : Type 0} (faults : ℕ → Option F) (fault : F) : T
   pub here : faults index ≡ Some fault
   pub none_before : (before : ℕ) → before < index → faults before ≡ None
 
--- the first fault is that of the faulty line with the least index; if there is none, no line is faulty
+-- the first fault is that of the first faulty line; if there is none, no line is faulty
 abbrev pub FirstFaultLaw : Type 0
 FirstFaultLaw = (lines : List Line)
     → MatchOption (first_fault [] lines) ((index : ℕ) → fault_at lines index ≡ None)

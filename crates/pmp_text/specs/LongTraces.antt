@@ -65,7 +65,7 @@ has_begun true records = true
 has_begun false [] = false
 has_begun false (header ∷ rows) = true
 
--- the first record of a trace, if it is one of these, names the fields
+-- the trace's first record, if it is among these, names the fields
 abbrev pub IsHeaded : (begun : Bool) → Records → Type 0
 IsHeaded true records = ⊤
 IsHeaded false [] = ⊤

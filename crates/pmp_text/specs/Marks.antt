@@ -22,7 +22,7 @@ abbrev pub is_taken : List ℕ → Bool
 is_taken word = bytes_eq word (codes "last")
     || (bytes_eq word (codes "mml") || (bytes_eq word (codes "mmwp") || bytes_eq word (codes "rlb")))
 
--- a letter, then letters, digits, `_` and `.`, not too many, and no word with its own meaning
+-- a letter, then letters, digits, `_` and `.`, not too many, and no taken word
 abbrev pub is_name : List ℕ → Bool
 is_name word = begins_with_letter word
     && (list_all is_name_byte word && (nat_le (length word) NAME_BYTES && not (is_taken word)))

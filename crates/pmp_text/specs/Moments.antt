@@ -146,7 +146,7 @@ abbrev pub unasked : (publications : ℕ) → (waived : Bool) → Asked
 unasked publications waived =
     record { from = publications; to = publications; coming = if waived then coming.Waived else coming.Unmet }
 
--- a row asks from one moment to the other, if both come in this order, or the first is past the end, a fault of its own
+-- a row asks from one moment to the other, if both come in order, or the first is past the end
 abbrev pub between_places : (publications : ℕ) → (waived : Bool) → (from to : Option ℕ) → Asked
 between_places publications waived (Some from) (Some to) =
     if nat_le from to || nat_lt publications from then record { from = from; to = to; coming = coming.Met }

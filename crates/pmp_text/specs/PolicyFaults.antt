@@ -17,7 +17,7 @@ policy_fault_at labeled moments rows index = option_and_then
     (λ row. option_map (at_row (index + 1)) (policy_row_fault moments.publications (policy_in labeled moments row)))
     (slice_get rows index)
 
--- the first fault is that of the faulty row with the least index; if there is none, no row is faulty
+-- the first fault is that of the first faulty row; if there is none, no row is faulty
 abbrev pub FirstPolicyFaultLaw : Type 0
 FirstPolicyFaultLaw = (labeled : Bool) (moments : KnownMoments) (rows : List (List (List ℕ)))
     → MatchOption (first_policy_fault labeled moments 1 rows)

@@ -48,7 +48,7 @@ version_numbered number =
     else (if bytes_eq number (codes "2") then Some (Sized SixtyFour)
     else (if bytes_eq number (codes "3") then Some Headed else None))
 
--- the version, if the first significant line has the words `pmp` and a version's number
+-- the version that the words `pmp` and a number name
 unfoldable pub version_named : List (List ℕ) → Option Version
 version_named (name ∷ number ∷ []) = if bytes_eq name (codes "pmp") then version_numbered number else None
 version_named _ = None

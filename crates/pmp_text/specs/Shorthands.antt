@@ -80,7 +80,7 @@ aligned_place first size =
     if first % size == 0 && nat_le (first + size) ADDRESS_LIMIT
     then Ok (record { address = first / 4 + (size / 8 - 1); low = None }) else Err (part 3 BadEntry)
 
--- from where the entry before ends, up to `end`
+-- from where the entry before ends
 abbrev pub tor_place : (first end : ℕ) → Result Place Flaw
 tor_place first end =
     if not (end % 4 == 0 && nat_lt first end && nat_lt end ADDRESS_LIMIT) then Err (part 4 BadEntry)

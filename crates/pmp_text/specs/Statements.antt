@@ -66,7 +66,7 @@ expect_statement operands = elim (assignment Headed operands) [
 
 -- ---- the hart
 
--- a number below 256; the refusal of a larger one is `kind`
+-- a number below 256; a larger one is refused as `kind`
 abbrev pub byte_number : Refusal → List ℕ → Result ℕ Refusal
 byte_number kind word = elim (word_number word) [
   | Some number ↦ if nat_lt number 256 then Ok number else Err kind

@@ -22,7 +22,7 @@ row_fault_at moments rows index = option_and_then
     (row_fault moments.publications (after_before moments None rows index) (row_in moments row)))
     (slice_get rows index)
 
--- the first fault is that of the faulty row with the least index; if there is none, no row is faulty
+-- the first fault is that of the first faulty row; if there is none, no row is faulty
 abbrev pub FirstRowFaultLaw : Type 0
 FirstRowFaultLaw = (moments : KnownMoments) (rows : List (List (List ℕ)))
     → MatchOption (first_row_fault moments None 1 rows)

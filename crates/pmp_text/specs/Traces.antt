@@ -84,7 +84,7 @@ row_of_record moments fields = result_ok (row_in moments fields)
 abbrev pub after_of : Option RowFields → Option ℕ
 after_of row = option_map (λ fields. fields.after) row
 
--- it asks for fewer publications than the row before
+-- fewer publications than the row before
 abbrev pub falls_behind : (last : Option ℕ) → (after : ℕ) → Bool
 falls_behind None after = false
 falls_behind (Some last) after = nat_lt after last

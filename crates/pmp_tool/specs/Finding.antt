@@ -31,7 +31,7 @@ IsUnlisted side failure = (fault : Refusal) × CantBeOpened fault × (failure �
 abbrev pub IsUnfit : (files : List Text) → (side : Option Side) → Failure → Type 0
 IsUnfit files side failure = (fault : Refusal) × HasNoHarts files fault × (failure ≡ unread fault side)
 
--- why harts aren't found at a path: it can't be read, or has none
+-- a path can't be read, or has no harts
 pub data AreUnfoundAt (known : Option (Option (List Text))) (side : Option Side) : Failure → Type 0 where
   unlisted : (fault : Refusal) → CantBeOpened fault → AreUnfoundAt known side (unread fault side)
   unfit : (fault : Refusal) (files : List Text) → IsFolder known (Some files) → HasNoHarts files fault

@@ -69,7 +69,7 @@ abbrev pub IsNewOfHarts : Folders → (new : Option Text) → (is_folder : Bool)
 IsNewOfHarts folders None is_folder harts = is_folder ≡ false
 IsNewOfHarts folders (Some path) is_folder harts = IsOfHarts (folders path) is_folder harts
 
--- which of a command's scripts are folders, and their harts
+-- which scripts of a command are folders, with these harts
 pub record AreAt (folders : Folders) (command : Command) (is_old is_new : Bool) (harts : List Text) : Type 0 where
   pub old : IsOfHarts (folders command.script.now) is_old harts
   pub new : IsNewOfHarts folders (new_script command.request) is_new harts

@@ -128,7 +128,7 @@ guessed = record {
   bursts = false;
 }
 
--- the log gives no script; the status is the refusal's number, with its line, and the room is empty
+-- the log gives no script; status and line are the refusal's, and the room is empty
 pub record IsNoLog (format : Format) (log : List ℕ) (status : ℕ) (answer : Answer) : Type 0 where
   pub fault : ImportFault
   pub why : GivesNone format guessed (lines log) fault

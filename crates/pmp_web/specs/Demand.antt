@@ -35,7 +35,7 @@ demand_of number =
 abbrev pub pace_of : ℕ → Option Pace
 pace_of number = if number == 0 then Some Publications else (if number == 1 then Some Events else None)
 
--- what the numbers name, if each names something; a number has no digits, so none is bare
+-- what the numbers name, if all name something; none is bare
 abbrev pub question_by : Demand → Option Modes → Option Kinds → Option policy.Demand → Option Pace → Option Question
 question_by room (Some modes) (Some kinds) (Some demand) (Some pace) = Some (record {
   pace = pace;
