@@ -1,10 +1,10 @@
-/* Threads that decide by a hart's unit while its firmware writes. There are two units: readers ask the live one, and the
- * writer makes its writes to the other, once no reader is in it any more, and then has that one live. So a reader sees
- * all writes of a publication or none, and waits for nobody.
+/* Threads that query a hart's unit while its firmware writes. There are two units: readers query the live one; the
+ * writer waits until no reader is in the other, makes its writes there, and then makes that one live. So a reader sees
+ * all writes of a publication or none, and never waits for another thread.
  *
  *     cc -O2 -pthread shared_unit.c $(pkg-config --cflags --libs tilvenka_pmp) -o shared_unit && ./shared_unit 10000
  *
- * The program publishes so often, switching between two domains, while two threads ask which of them is open. */
+ * The program publishes that many times, switching between two domains, while two threads query which one is open. */
 #include <pthread.h>
 #include <sched.h>
 #include <stdatomic.h>
@@ -14,18 +14,18 @@
 
 struct shared_unit {
     tilvenka_pmp_unit units[2];
-    atomic_uint live;       /* the place of the one that readers ask */
-    atomic_uint readers[2]; /* how many are in each */
+    atomic_uint live;       /* the index of the unit that readers query */
+    atomic_uint readers[2]; /* how many are in each unit */
 };
 
-/* A reader's: the unit at this place stays as it is until leave(). */
+/* For readers: the unit with the index returned doesn't change until leave(). */
 static unsigned enter(struct shared_unit *shared) {
     for (;;) {
         unsigned place = atomic_load(&shared->live);
         atomic_fetch_add(&shared->readers[place], 1);
         if (atomic_load(&shared->live) == place)
             return place;
-        atomic_fetch_sub(&shared->readers[place], 1); /* the writer published meanwhile */
+        atomic_fetch_sub(&shared->readers[place], 1); /* the writer published in between */
     }
 }
 
@@ -38,7 +38,7 @@ struct write {
     uint64_t value;
 };
 
-/* The one writer's: these writes take effect together. */
+/* For the only writer: these writes take effect together. */
 static void publish(struct shared_unit *shared, const struct write *writes, size_t count) {
     unsigned live = atomic_load(&shared->live), other = 1 - live;
     while (atomic_load(&shared->readers[other]) != 0)
@@ -50,7 +50,7 @@ static void publish(struct shared_unit *shared, const struct write *writes, size
     atomic_store(&shared->live, other);
 }
 
-/* Two pages, each a domain. While firmware switches it closes both. */
+/* Two pages, each a domain. To switch, firmware first closes both. */
 static const struct write set_up[] = {{0x3b0, 0x200001ff}, {0x3b1, 0x200005ff}, {0x3a0, 0x1819}};
 static const struct write to_second[] = {{0x3a0, 0x1818}, {0x3a0, 0x1918}};
 static const struct write to_first[] = {{0x3a0, 0x1818}, {0x3a0, 0x1819}};
@@ -63,7 +63,7 @@ static bool may_load(const tilvenka_pmp_unit *unit, uint64_t start) {
     return tilvenka_pmp_is_allowed(tilvenka_pmp_decide(unit, TILVENKA_PMP_USER, TILVENKA_PMP_LOAD, start, 8));
 }
 
-/* In each publication just one of the domains is open. */
+/* After each publication exactly one of the domains is open. */
 static void *ask(void *unused) {
     while (!atomic_load(&is_over)) {
         unsigned place = enter(&shared);

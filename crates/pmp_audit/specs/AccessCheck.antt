@@ -1,4 +1,4 @@
--- What a check says of an access.
+-- The result of checking an access.
 use Rattle.std.specs.Prelude.{◌≡◌, ℕ, ◌≤◌, List, length, Option, Ok}
 use Rattle.pmp_core.specs.declared.access.Access.{Access}
 use Rattle.pmp_core.specs.declared.decision.Decision.{Decision}
@@ -9,8 +9,8 @@ use Rattle.pmp_text.specs.Reports.{file_of_script, report_row}
 use Rattle.pmp_text.specs.Scripts.{script_meaning}
 use Rattle.pmp_audit.specs.AskedFile.{IsAsked}
 
--- the script means this, no more publications are asked for than it has, the decision is the manual's after those
--- (3.7.1.3), and its row has the number 1
+-- the script has these contents, and at least as many publications as are asked for; the decision is the manual's after
+-- those (3.7.1.3), and its row has the number 1
 pub record CheckSays (script : List ℕ) (access : Access) (after : Option When) (decision : Decision) (text : List ℕ)
     : Type 0 where
   pub contents : ScriptContents

@@ -1,37 +1,37 @@
--- What a call answers that makes a text of its inputs, and appends it or writes it.
+-- What a call returns that makes a text from its inputs, and appends or writes it.
 use Rattle.std.specs.Prelude.{◌≡◌, ℕ, List, ◌++◌, Option, ⊤}
 use Rattle.std.specs.Io.KnownBytes.{Appends, Keeps}
 use Rattle.pmp_text.specs.Bytes.{AppendsBeginning}
 use Rattle.pmp_audit.specs.declared.fault.AuditFault.{AuditFault}
 use Rattle.pmp_audit.specs.declared.fault.AuditFault.TheVariants.{Memory, Output}
 
--- memory ran out, or the call refuses by itself
+-- memory ran out, or the call itself refuses
 abbrev pub Declines : (Refuses : AuditFault → Type 0) → AuditFault → Type 0
 Declines Refuses Memory = ⊤
 Declines Refuses fault = Refuses fault
 
--- Says answer text: this text goes with this answer, and joined another
+-- Says answer text: this text belongs to this answer, and was appended
 pub record IsAppended {A : Type 0} (Says : A → List ℕ → Type 0) (before after : List ℕ) (answer : A) : Type 0 where
   pub text : List ℕ
   pub says : Says answer text
   pub appended : after ≡ before ++ text
 
--- Says answer text: this text goes with this answer
+-- Says answer text: this text belongs to this answer
 module _ {A : Type 0} (Says : A → List ℕ → Type 0) (before after : Option (List ℕ)) where
-  -- a text that goes with the answer was written
+  -- a text that belongs to the answer was written
   pub record IsWritten (answer : A) : Type 0 where
     pub text : List ℕ
     pub says : Says answer text
     pub written : Appends before after text
 
-  -- a beginning of a text was written that goes with some answer
+  -- a prefix of a text that belongs to some answer was written
   pub record IsCutShort : Type 0 where
     pub answer : A
     pub text : List ℕ
     pub says : Says answer text
     pub front : AppendsBeginning before after text
 
-  -- memory ran out, the output failed, or the call refuses by itself; a byte was written only where the output failed
+  -- memory ran out, the output failed, or the call itself refuses; bytes were written only if the output failed
   abbrev pub IsRefused : (Refuses : AuditFault → Type 0) → AuditFault → Type 0
   IsRefused Refuses Memory = Keeps before after
   IsRefused Refuses Output = IsCutShort

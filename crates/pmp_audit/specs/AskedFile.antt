@@ -1,4 +1,4 @@
--- What is said of the register file after the publications that are asked for, and when that is refused.
+-- Output about the register file after the publications asked for, and when it is refused.
 use Rattle.std.specs.Prelude.{◌≡◌, ℕ, ◌<◌, ◌≤◌, List, length, Option, Some, None, Ok, Err}
 use Rattle.pmp_text.specs.declared.moments.When.{When}
 use Rattle.pmp_text.specs.declared.moments.When.TheVariants.{Number, Labelled}
@@ -10,7 +10,7 @@ use Rattle.pmp_audit.specs.declared.fault.AuditFault.{AuditFault}
 use Rattle.pmp_audit.specs.declared.fault.AuditFault.TheVariants.{Script, BadAfter, NoMoment}
 use Rattle.pmp_audit.specs.Moments.{AreMoments}
 
--- so many publications are asked for: all of them where nothing is said
+-- `done` publications are asked for: by default, all
 abbrev pub IsAsked : Option When → ScriptContents → (done : ℕ) → Type 0
 IsAsked None script done = done ≡ length script.batches
 IsAsked (Some (Number number)) script done = done ≡ number
@@ -24,7 +24,7 @@ HasNone (Some (Labelled label)) script =
     × ((kind : Refusal) × (when_place moments (Labelled label) ≡ Err kind))
 HasNone _ script = ⊥
 
--- the script means this, no more publications are asked for than it has, and the text is one of so many of them
+-- the script has these contents, with the publications asked for, and the text is one for those
 pub record SaysOfScript (IsTextOf : ScriptContents → (done : ℕ) → List ℕ → Type 0) (script : List ℕ)
     (after : Option When) (text : List ℕ) : Type 0 where
   pub contents : ScriptContents
@@ -34,19 +34,19 @@ pub record SaysOfScript (IsTextOf : ScriptContents → (done : ℕ) → List ℕ
   pub within : done ≤ length contents.batches
   pub text_is : IsTextOf contents done text
 
--- why the script doesn't have what is asked for: it has fewer publications, or no such moment
+-- why the script lacks what is asked for: too few publications, or no such moment
 abbrev pub IsLacking : Option When → ScriptContents → AuditFault → Type 0
 IsLacking after script BadAfter = (done : ℕ) × IsAsked after script done × (length script.batches < done)
 IsLacking after script NoMoment = HasNone after script
 IsLacking after script _ = ⊥
 
--- the script means this, and doesn't have what is asked for
+-- the script has these contents, and lacks what is asked for
 pub record AsksTooMuch (script : List ℕ) (after : Option When) (fault : AuditFault) : Type 0 where
   pub contents : ScriptContents
   pub script_means : script_meaning script ≡ Ok contents
   pub lacking : IsLacking after contents fault
 
--- the script's own fault, or it doesn't have what is asked for
+-- the script's own fault, or it lacks what is asked for
 abbrev pub FileRefuses : (script : List ℕ) → (after : Option When) → AuditFault → Type 0
 FileRefuses script after (Script fault) = script_meaning script ≡ Err fault
 FileRefuses script after BadAfter = AsksTooMuch script after BadAfter

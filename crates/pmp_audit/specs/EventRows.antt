@@ -1,4 +1,4 @@
--- The rows of events while they are written.
+-- The rows of events, while they are written.
 use Rattle.std.specs.Prelude.{◌≡◌, ℕ, ◌+◌, List, [], ◌∷◌, ◌++◌, length, fold, map, if◌then◌else◌}
 use Rattle.pmp_core.specs.RegisterFile.{RegisterFile}
 use Rattle.pmp_core.specs.RegisterWrite.{step}
@@ -9,26 +9,26 @@ use Rattle.pmp_audit.specs.WriteList.{PlacedEvent, is_not_stored}
 abbrev pub file_left : RegisterFile → List PlacedEvent → RegisterFile
 file_left file events = fold step file (map (λ it. it.event) events)
 
--- the rows of events from this number on, from this file on
+-- the rows of events from this number and this file on
 abbrev pub rows_from : (number : ℕ) → RegisterFile → List PlacedEvent → List ℕ
 rows_from number file [] = []
 rows_from number file (it ∷ rest) =
     effect_row (record { number = number; publication = it.publication; line = it.line }) file it.event
     ++ rows_from (number + 1) (step file it.event) rest
 
--- how many of them are not stored as written
+-- how many of them aren't stored as written
 abbrev pub turned_from : RegisterFile → List PlacedEvent → ℕ
 turned_from file [] = 0
 turned_from file (it ∷ rest) =
     (if is_not_stored file it.event then 1 else 0) + turned_from (step file it.event) rest
 
--- a text, a register file, and what was counted
+-- a text, a register file, and the counts
 pub record Written : Type 0 where
   pub text : List ℕ
   pub file : RegisterFile
   pub summary : EventSummary
 
--- these events were done from here to there and counted, and their rows joined the text
+-- these events lead from the one state to the other, are counted, and their rows were appended
 pub record AreWritten (from to : Written) (events : List PlacedEvent) : Type 0 where
   pub rows : to.text ≡ from.text ++ rows_from (from.summary.events + 1) from.file events
   pub file_is : to.file ≡ file_left from.file events

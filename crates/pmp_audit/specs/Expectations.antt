@@ -1,4 +1,4 @@
--- What is said of what a script expects.
+-- The rows of what a script expects.
 use Rattle.std.specs.Prelude.{ℕ, ◌==◌, Bool, not, List, fold, take, count_by}
 use Rattle.std.specs.List.{flat_map}
 use Rattle.pmp_core.specs.Histories.{joined}
@@ -9,11 +9,11 @@ use Rattle.pmp_text.specs.declared.expectation.Expectation.{Expectation}
 use Rattle.pmp_text.specs.Contents.{ScriptContents}
 use Rattle.pmp_text.specs.Expected.{expected_row}
 
--- the register file that the first so many events of a script leave
+-- the register file after the first `events` events of a script
 abbrev pub file_at_event : ScriptContents → (events : ℕ) → RegisterFile
 file_at_event script events = fold step script.start (take events (joined script.batches))
 
--- what the register reads behind the events that stand before the expectation
+-- what the register reads after the events before the expectation
 abbrev pub value_there : ScriptContents → Expectation → ℕ
 value_there script expectation = register_value (file_at_event script expectation.events) expectation.register
 

@@ -1,4 +1,4 @@
--- How a fault of a layer below is answered.
+-- How faults of lower layers are returned.
 use Rattle.pmp_share.specs.declared.fault.ShareFault.{ShareFault}
 use Rattle.pmp_share.specs.declared.fault.ShareFault.TheVariants as share
 use Rattle.pmp_text.specs.declared.script.ScriptFault.{ScriptFault}
@@ -10,7 +10,7 @@ use Rattle.pmp_audit.specs.declared.fault.AuditFault.TheVariants.{Script, Script
 use Rattle.pmp_audit.specs.declared.fault.AuditFault.TheVariants.{BadAfter, BadAfterOf, NoMoment, NoMomentOf, Moved}
 use Rattle.pmp_audit.specs.declared.fault.AuditFault.TheVariants.{Memory, Output}
 
--- want of memory is the same in every layer
+-- out of memory is the same fault in every layer
 abbrev pub unless_memory : Refusal → AuditFault → AuditFault
 unless_memory kind.Memory fault = Memory
 unless_memory _ fault = fault
@@ -21,7 +21,7 @@ fault_of_script fault = unless_memory fault.kind (Script fault)
 abbrev pub fault_of_trace : TraceFault → AuditFault
 fault_of_trace fault = unless_memory fault.kind (Trace fault)
 
--- a policy has the faults of a trace
+-- a policy has the same faults as a trace
 abbrev pub fault_of_policy : TraceFault → AuditFault
 fault_of_policy fault = unless_memory fault.kind (Policy fault)
 

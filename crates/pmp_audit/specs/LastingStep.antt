@@ -1,9 +1,9 @@
--- From when on a thing lasts, as a pass over the publications goes on.
+-- Since when a condition lasts, as a pass goes over the publications.
 use Rattle.std.specs.Prelude.{ℕ, Bool, not, Option, Some, None, unwrap_or, if◌then◌else◌}
 use Rattle.pmp_core.specs.RegisterFile.{RegisterFile}
 use Rattle.pmp_text.specs.declared.moments.Lasting.{Lasting}
 
--- from when on it holds once so many publications are done, where it held from then on before
+-- since when it holds after `done` publications, given since when it held before
 abbrev pub since : (before : Option ℕ) → (holds : Bool) → (done : ℕ) → Option ℕ
 since before holds done = if holds then Some (unwrap_or before done) else None
 

@@ -25,18 +25,18 @@ abbrev pub OneListOfDecisionsLaw : Type 0
 OneListOfDecisionsLaw = (script : ScriptContents) (rows : List Row) (one other : List Decision)
     → AreDecided script rows one → AreDecided script rows other → one ≡ other
 
--- a script and a trace have one report and one summary
+-- a script and a trace have only one report and one summary
 abbrev pub OneReportLaw : Type 0
 OneReportLaw = (script trace : List ℕ) (one other : Summary) (text another : List ℕ)
     → AuditSays script trace one text → AuditSays script trace other another → (one ≡ other) × (text ≡ another)
 
--- a script and a policy have one answer and one summary, after publications and after events
+-- a script and a policy have only one answer and one summary, after publications and after events
 abbrev pub OnePolicyAnswerLaw : Type 0
 OnePolicyAnswerLaw = (pace : Pace) (script policy : List ℕ) (one other : PolicySummary) (text another : List ℕ)
     → PolicySays pace script policy one text → PolicySays pace script policy other another
     → (one ≡ other) × (text ≡ another)
 
--- two scripts have one list of differences, and one number of its rows
+-- two scripts have only one list of differences, and one number of its rows
 abbrev pub OneDifferenceLaw : Type 0
 OneDifferenceLaw = (old : List ℕ) (old_after : Option When) (new : List ℕ) (new_after : Option When)
     (asked : AskedChanges) (one other : ℕ) (text another : List ℕ) → DiffSays old old_after new new_after asked one text
@@ -46,14 +46,14 @@ abbrev pub OneEntryListLaw : Type 0
 OneEntryListLaw = (script : List ℕ) (after : Option When) (text other : List ℕ)
     → SaysOfScript IsEntryList script after text → SaysOfScript IsEntryList script after other → text ≡ other
 
--- with no number the entry isn't frozen in the end; with one, it is frozen after the first k batches and after any
--- number from there on, with the same configuration and the same bytes
+-- without a number, the entry isn't frozen in the end; with k, it is frozen after the first k batches and after more,
+-- with the same configuration and the same bytes
 abbrev pub IsKept : (start : RegisterFile) → List (List Event) → (i : ℕ) → Option ℕ → Type 0
 IsKept start batches i None = is_frozen (file_behind start batches) i ≡ false
 IsKept start batches i (Some k) =
     (done : ℕ) → k ≤ done → StaysFrozen (file_behind start (take k batches)) (file_behind start (take done batches)) i
 
--- with no number the entry isn't held in the end; with one, what it and the entries before it decide after the first k
+-- without a number, the entry isn't held in the end; with k, what it and the entries before it decide after the first k
 -- batches is protected from there on
 abbrev pub Protects : (start : RegisterFile) → List (List Event) → (i : ℕ) → Option ℕ → Type 0
 Protects start batches i None = is_held (file_behind start batches) i ≡ false

@@ -1,4 +1,4 @@
--- What a reader has to believe: what each call answers.
+-- What a reader must trust: what each call returns.
 pub mod Answers
 pub mod AccessCheck
 pub mod TraceAudit
@@ -15,9 +15,9 @@ pub mod EntryList
 pub mod Moments
 pub mod PolicyCheck
 pub mod Fault
--- Laws of these definitions, which are proved.
+-- Laws of these definitions, all proved.
 pub mod Laws
--- The rest, which only private contracts cite.
+-- The rest, used only by private contracts.
 pub mod Replay
 pub mod Sides
 pub mod Growing

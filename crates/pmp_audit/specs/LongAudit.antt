@@ -1,4 +1,4 @@
--- What an audit says of a trace of any length, and what it has written where it stops.
+-- What an audit reports on a trace of any length, and what it has written if it stops.
 use Rattle.std.specs.Prelude.{◌≡◌, ◌⊎◌, ℕ, ◌+◌, ◌-◌, ◌^◌, ◌≤◌, List, ◌++◌, length, map, filter_map}
 use Rattle.std.specs.Prelude.{Option, None, Ok, Err}
 use Rattle.std.specs.Io.KnownBytes.{Appends, Keeps}
@@ -21,7 +21,7 @@ use Rattle.pmp_audit.specs.declared.fault.AuditFault.TheVariants.{Script, Trace,
 use Rattle.pmp_audit.specs.declared.trace_audit.Summary.{Summary}
 use Rattle.pmp_audit.specs.TraceAudit.{summary_of}
 
--- the script means this, the text is its report with the trace, whose first row has this number, and its decisions are
+-- the script has these contents, the text is its report for the trace, numbered from `first`, and its decisions are
 -- counted
 pub record LongAuditSays (script : List ℕ) (first : ℕ) (trace : List ℕ) (summary : Summary) (text : List ℕ) : Type 0
   where
@@ -32,7 +32,7 @@ pub record LongAuditSays (script : List ℕ) (first : ℕ) (trace : List ℕ) (s
 
 -- ---- an audit that stops
 
--- the records have no fault where they stand, and the text reports the decisions of their rows
+-- the records have no fault at this place, and the text reports the decisions of their rows
 pub record IsReportAt (script : ScriptContents) (place : Place) (records : Records) (text : List ℕ) : Type 0 where
   pub fine : piece_fault (moments_in script) place records ≡ None
   pub rows : List Row
@@ -41,7 +41,7 @@ pub record IsReportAt (script : ScriptContents) (place : Place) (records : Recor
   pub decided : AreDecided script rows decisions
   pub report : text ≡ report_text_from place.next rows decisions
 
--- the text reports whole rows, the first ones of the trace
+-- the text reports whole rows, which are a prefix of the trace's
 pub record IsFrontOf (script : List ℕ) (first : ℕ) (trace text : List ℕ) : Type 0 where
   pub contents : ScriptContents
   pub script_means : script_meaning script ≡ Ok contents
@@ -50,13 +50,13 @@ pub record IsFrontOf (script : List ℕ) (first : ℕ) (trace text : List ℕ) :
   pub trace_has : records_of trace ≡ front ++ behind
   pub report : IsReportAt contents (beginning first) front text
 
--- a line is too long for a piece of `limit` bytes, or a row without a fault, behind others, has too high a number, or
--- there are so many bytes that pieces may not be counted
+-- a line is too long for a piece of `limit` bytes, or a row without a fault, after others, has too high a number, or
+-- the bytes are too many to count in pieces
 abbrev pub IsTooLong : (limit : ℕ) → KnownMoments → (first : ℕ) (trace : List ℕ) → Type 0
 IsTooLong limit moments first trace = HasLongLine trace (limit - 1)
     ⊎ HasTooManyRows moments (beginning first) (records_of trace) ⊎ (2 ^ 64 ≤ length trace + 1)
 
--- the trace has this first fault, or its input failed, or it is too long
+-- the trace has this first fault, its input failed, or it is too long
 pub record IsFaultyLong (limit : ℕ) (script : List ℕ) (first : ℕ) (trace : List ℕ) (fault : TraceFault) : Type 0 where
   pub contents : ScriptContents
   pub script_means : script_meaning script ≡ Ok contents
@@ -65,11 +65,11 @@ pub record IsFaultyLong (limit : ℕ) (script : List ℕ) (first : ℕ) (trace :
       × IsTooLong limit (moments_in contents) first trace)
 
 module _ (limit : ℕ) (script : List ℕ) (first : ℕ) (trace : List ℕ) (before after : Option (List ℕ)) where
-  -- whole rows were written, the first ones of the trace
+  -- whole rows were written, which are a prefix of the trace's
   abbrev pub WroteFront : Type 0
   WroteFront = (text : List ℕ) × IsFrontOf script first trace text × Appends before after text
 
-  -- what was written is whole rows, but where the output failed; nothing, where the script has a fault
+  -- what was written is whole rows, unless the output failed; nothing, if the script has a fault
   abbrev pub StopsLong : AuditFault → Type 0
   StopsLong (Script fault) = (script_meaning script ≡ Err fault) × Keeps before after
   StopsLong (Trace fault) = IsFaultyLong limit script first trace fault × WroteFront

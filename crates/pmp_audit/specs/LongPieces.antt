@@ -1,4 +1,4 @@
--- A piece of a long audit: what is written of it, and why it isn't.
+-- A piece of a long audit: what is written for it, and why it fails.
 use Rattle.std.specs.Prelude.{◌≡◌, ◌⊎◌, ℕ, ◌+◌, List, Some, ⊤}
 use Rattle.pmp_text.specs.declared.refusal.Refusal.{Refusal}
 use Rattle.pmp_text.specs.Flaws.{as_whole, at_row}
@@ -15,17 +15,17 @@ use Rattle.pmp_audit.specs.LongAudit.{IsReportAt}
 use Rattle.pmp_audit.specs.LongParts.{items_of}
 use Rattle.pmp_audit.specs.Report.{refused_count}
 
--- the text reports the rows of records that stand there, and what follows on them stands behind
+-- the text reports the rows of records at this position, and `new` is the position after them
 pub record IsReported (script : ScriptContents) (records : Records) (old new : Standing) (text : List ℕ) : Type 0 where
   pub report : IsReportAt script old.place records text
   pub place : new.place ≡ place_behind (moments_in script) old.place records
   pub counted : new.faults ≡ old.faults + refused_count report.decisions
 
--- the report is that of the piece
+-- the report is the piece's
 abbrev pub IsPieceReported : ScriptContents → Records → (old : Standing) → PieceReport → Type 0
 IsPieceReported script records old report = IsReported script records old report.behind (items_of report.texts.items)
 
--- why records that stand there have no report
+-- why records at this position have no report
 abbrev pub PieceFails : (script : ScriptContents) (records : Records) (old : Standing) → AuditFault → Type 0
 PieceFails script records old (Trace fault) = (piece_fault (moments_in script) old.place records ≡ Some fault)
     ⊎ (fault ≡ no_input_for_rows)

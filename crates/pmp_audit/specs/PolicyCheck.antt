@@ -1,4 +1,4 @@
--- What the rows of a policy come to, by bytes and by states of the register file (Volume II, 3.7.1.3).
+-- How the rows of a policy are judged, by bytes and by states of the register file (Volume II, 3.7.1.3).
 use Rattle.std.specs.Prelude.{◌≡◌, ◌≢◌, ℕ, ◌+◌, ◌<◌, ◌≤◌, Bool, true, false, List, [], ◌∷◌, length, map, take, count_by}
 use Rattle.std.specs.Prelude.{Option, Some, None, IsSome, Ok, Err, ◌⊎◌, option_map, slice_get}
 use Rattle.std.specs.List.{AllZip, enumerate_from, flat_map, position_from}
@@ -37,31 +37,31 @@ use Rattle.pmp_audit.specs.declared.policy_check.steps.Pace.{Pace}
 use Rattle.pmp_audit.specs.declared.policy_check.steps.Pace.TheVariants.{Publications, Events}
 use Rattle.pmp_audit.specs.Moments.{AreMoments}
 
--- ---- the states that are asked
+-- ---- the states asked about
 
--- a script's publications step by step: each whole, or each event by itself
+-- a script's publications as steps: each whole, or each event by itself
 abbrev pub steps_of : Pace → List (List Event) → List (List Event)
 steps_of Publications batches = batches
 steps_of Events batches = map (λ event. event ∷ []) (joined batches)
 
--- how many steps the first publications are
+-- how many steps the first publications take
 abbrev pub step_count : Pace → List (List Event) → (publications : ℕ) → ℕ
 step_count Publications batches publications = publications
 step_count Events batches publications = length (joined (take publications batches))
 
--- the register file after so many steps
+-- the register file after `done` steps
 abbrev pub state_after : Pace → ScriptContents → (done : ℕ) → RegisterFile
 state_after pace script done = file_behind script.start (take done (steps_of pace script.batches))
 
 -- ---- one state
 
--- the byte is open to one of the row's modes by one of its kinds, or closed
+-- the byte is open, or closed, to one of the row's modes and kinds
 abbrev pub IsFound : (allowed : Bool) → RegisterFile → PolicyRow → (byte : ℕ) → Type 0
 IsFound allowed file row byte =
     (mode : Mode) × (kind : Kind) × (has_mode row.modes mode ≡ true) × (has_kind row.kinds kind ≡ true)
     × IsAnswered file allowed mode kind byte
 
--- what a demand is broken by: a byte that is open, or where it is always to be, one that is closed
+-- what breaks a demand: an open byte, or for `always` a closed one
 abbrev pub is_broken_by : Demand → Bool
 is_broken_by Never = true
 is_broken_by Always = false
@@ -75,7 +75,7 @@ IsBroken file row = IsFound (is_broken_by row.demand) file row
 abbrev pub IsNotHeld : RegisterFile → PolicyRow → (byte : ℕ) → Type 0
 IsNotHeld file row byte = ¬ (IsHeldByte file byte)
 
--- the run begins at the first byte of the row's range that is so, and goes on in the range as far as its owner does
+-- the run begins at the first such byte of the row's range, and goes on in the range as far as its owner does
 pub record IsFirstRun (file : RegisterFile) (IsSo : ℕ → Type 0) (row : PolicyRow) (run : Run) : Type 0 where
   pub proper : run.first ≤ run.last
   pub from : row.first ≤ run.first
@@ -85,7 +85,7 @@ pub record IsFirstRun (file : RegisterFile) (IsSo : ℕ → Type 0) (row : Polic
   pub owned : (byte : ℕ) → IsInRun run byte → IsOwner file byte run.owner
   pub apart : run.last < row.last → (other : Option ℕ) → IsOwner file (run.last + 1) other → run.owner ≢ other
 
--- that run, or none where no byte of the range is so
+-- that run, or none if the range has no such byte
 abbrev pub IsFirstOf : RegisterFile → (ℕ → Type 0) → PolicyRow → Option Run → Type 0
 IsFirstOf file IsSo row None = (byte : ℕ) → row.first ≤ byte → byte ≤ row.last → ¬ (IsSo byte)
 IsFirstOf file IsSo row (Some run) = IsFirstRun file IsSo row run
@@ -96,7 +96,7 @@ IsFirstOf file IsSo row (Some run) = IsFirstRun file IsSo row run
 abbrev pub IsFirstIn : RegisterFile → PolicyRow → Option Run → Type 0
 IsFirstIn file row = IsFirstOf file (IsBroken file row) row
 
--- the first breach of the states from the one after so many steps to the one after so many: first in time, and then in
+-- the first breach in the states after `from` steps to after `to` steps, both included: first in time, and then in
 -- address
 pub record IsFirstBreach (state : ℕ → RegisterFile) (row : PolicyRow) (from to : ℕ) (breach : Breach) : Type 0 where
   pub after : from ≤ breach.done
@@ -104,7 +104,7 @@ pub record IsFirstBreach (state : ℕ → RegisterFile) (row : PolicyRow) (from 
   pub before : (done : ℕ) → from ≤ done → done < breach.done → IsFirstIn (state done) row None
   pub here : IsFirstIn (state breach.done) row (Some breach.run)
 
--- that breach, or none where no state has one
+-- that breach, or none if no state has one
 abbrev pub IsFirstOfAll : (state : ℕ → RegisterFile) → PolicyRow → (from to : ℕ) → Option Breach → Type 0
 IsFirstOfAll state row from to None = (done : ℕ) → from ≤ done → done ≤ to → IsFirstIn (state done) row None
 IsFirstOfAll state row from to (Some breach) = IsFirstBreach state row from to breach
@@ -115,19 +115,19 @@ IsFirstNotHeld state row to None = IsFirstOf (state to) (IsNotHeld (state to) ro
 IsFirstNotHeld state row to (Some breach) =
     (breach.done ≡ to) × IsFirstOf (state to) (IsNotHeld (state to) row) row (Some breach.run)
 
--- a hold is asked for where nothing is open
+-- `held` checks the locks only if no byte is open
 abbrev pub IsVerdictBy : Demand → (state : ℕ → RegisterFile) → PolicyRow → (from to : ℕ) → Option Breach → Type 0
 IsVerdictBy Never state row from to verdict = IsFirstOfAll state row from to verdict
 IsVerdictBy Always state row from to verdict = IsFirstOfAll state row from to verdict
 IsVerdictBy Held state row from to verdict = (IsSome verdict × IsFirstOfAll state row from to verdict)
     ⊎ (IsFirstOfAll state row from to None × IsFirstNotHeld state row to verdict)
 
--- the row's first breach, or none where it holds
+-- the row's first breach, or none if it holds
 abbrev pub IsBreachOf : Pace → ScriptContents → PolicyRow → Option Breach → Type 0
 IsBreachOf pace script row = IsVerdictBy row.demand (state_after pace script) row
     (step_count pace script.batches row.from) (step_count pace script.batches row.to)
 
--- where the row's moments come, its breach is so; else it is unmet
+-- if the row's moments come, it holds or has such a breach; else it is unmet
 abbrev pub IsVerdictOn : Coming → (IsSo : Option Breach → Type 0) → Verdict → Type 0
 IsVerdictOn coming.Met IsSo Holds = IsSo None
 IsVerdictOn coming.Met IsSo (Broken breach) = IsSo (Some breach)
@@ -135,18 +135,18 @@ IsVerdictOn coming.Met IsSo (Unmet waived) = ⊥
 IsVerdictOn coming.Unmet IsSo verdict = verdict ≡ Unmet false
 IsVerdictOn coming.Waived IsSo verdict = verdict ≡ Unmet true
 
--- whether the row holds, and its first breach where it doesn't
+-- whether the row holds, and its first breach if it doesn't
 abbrev pub IsVerdict : Pace → ScriptContents → PolicyRow → Verdict → Type 0
 IsVerdict pace script row = IsVerdictOn row.coming (IsBreachOf pace script row)
 
 -- ---- a whole policy
 
--- a row for each verdict, numbered from 1, with the label at its place where there is one
+-- a row for each verdict, numbered from 1, with its label if it has one
 unfoldable pub verdicts_text : List LabelText → List Verdict → List ℕ
 verdicts_text labels verdicts =
     flat_map (λ (index, verdict). verdict_row (index + 1) verdict (slice_get labels index)) (enumerate_from 0 verdicts)
 
--- how many rows there are, how many of them are broken or unmet, and the number of the first that has a bare address
+-- the number of rows, of those broken or unmet, and the number of the first that has a bare address
 abbrev pub policy_summary : List PolicyRow → List Verdict → PolicySummary
 policy_summary rows verdicts = record {
   rows = length verdicts;
@@ -154,7 +154,7 @@ policy_summary rows verdicts = record {
   bare = position_from (λ row. row.is_bare) 1 rows;
 }
 
--- the two texts mean this, each row has its verdict, and the text has them all
+-- script and policy mean this, each row has its verdict, and the text has them all
 pub record PolicySays (pace : Pace) (script policy : List ℕ) (summary : PolicySummary) (text : List ℕ) : Type 0 where
   pub contents : ScriptContents
   pub script_means : script_meaning script ≡ Ok contents
@@ -167,7 +167,7 @@ pub record PolicySays (pace : Pace) (script policy : List ℕ) (summary : Policy
   pub text_is : text ≡ verdicts_text (policy_labels policy) verdicts
   pub counted : summary ≡ policy_summary rows verdicts
 
--- the script means this, the fields are a row beside it, and the text has the verdict on it, as row of this number
+-- the script has these contents, the fields form a row for it, and the text is the row's verdict with this number
 pub record VerdictSays (pace : Pace) (script : List ℕ) (number : ℕ) (fields : PolicyFields) (verdict : Verdict)
     (text : List ℕ) : Type 0 where
   pub contents : ScriptContents
@@ -178,7 +178,7 @@ pub record VerdictSays (pace : Pace) (script : List ℕ) (number : ℕ) (fields 
   pub judged : IsVerdict pace contents row verdict
   pub text_is : text ≡ verdict_row number verdict None
 
--- the script's own fault, then that of the row with this number
+-- the script's own fault, or else that of the row with this number
 abbrev pub VerdictRefuses : (script : List ℕ) → (number : ℕ) → PolicyFields → AuditFault → Type 0
 VerdictRefuses script number fields (Script fault) = script_meaning script ≡ Err fault
 VerdictRefuses script number fields (Policy fault) =
@@ -194,7 +194,7 @@ pub record IsFaultyPolicy (script policy : List ℕ) (fault : TraceFault) : Type
   pub moments_are : AreMoments contents moments
   pub policy_means : (policy_meaning moments policy ≡ Err fault) ⊎ (fault ≡ no_input_for_rows)
 
--- the script's own fault, then the policy's
+-- the script's own fault, or else the policy's
 abbrev pub PolicyRefuses : (script policy : List ℕ) → AuditFault → Type 0
 PolicyRefuses script policy (Script fault) = script_meaning script ≡ Err fault
 PolicyRefuses script policy (Policy fault) = IsFaultyPolicy script policy fault

@@ -1,4 +1,4 @@
--- What a row of a policy asks of the bytes of one owner, computed from the owner's rights and locks.
+-- What a policy's row asks about the bytes of one owner, computed from the owner's rights and locks.
 use Rattle.std.specs.Prelude.{ℕ, Bool, not, ◌&&◌, ◌||◌, Option, if◌then◌else◌}
 use Rattle.pmp_core.specs.declared.access.Kind.{Kind}
 use Rattle.pmp_core.specs.declared.access.Kind.TheVariants.{Fetch, Load, Store}
@@ -40,7 +40,7 @@ abbrev pub is_yes : Question → RegisterFile → (owner : Option ℕ) → Polic
 is_yes question.IsBroken file owner row = finds_owned (is_broken_by row.demand) file owner row
 is_yes question.IsNotHeld file owner row = not (holds file owner)
 
--- what is asked of a byte
+-- what is asked about a byte
 abbrev pub IsYes : Question → RegisterFile → PolicyRow → (byte : ℕ) → Type 0
 IsYes question.IsBroken file row = IsBroken file row
 IsYes question.IsNotHeld file row = IsNotHeld file row

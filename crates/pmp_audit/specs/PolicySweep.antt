@@ -1,4 +1,4 @@
--- How far the rows of a policy are judged while the states go by.
+-- How far a policy's rows are judged as the states pass by.
 use Rattle.std.specs.Prelude.{◌≡◌, ℕ, ◌+◌, ◌<◌, ◌≤◌, List, length, map, Option, Some, None, true, false}
 use Rattle.pmp_core.specs.Moved.{AreAlikeBeside}
 use Rattle.pmp_core.specs.RegisterFile.{RegisterFile}
@@ -14,23 +14,23 @@ use Rattle.pmp_audit.specs.declared.policy_check.steps.State.{State}
 use Rattle.pmp_audit.specs.declared.policy_check.sweep.Judged.{Judged}
 use Rattle.pmp_audit.specs.PolicyCheck.{IsFirstBreach, IsFirstIn, IsVerdictBy, state_after, step_count}
 
--- it is one of these states, and what it decides otherwise than the one before has moved
+-- it is one of these states, and accesses without a moved byte are decided as in the state before
 pub record IsStateOf (states : ℕ → RegisterFile) (state : State) : Type 0 where
   pub file : state.file ≡ states state.done
   pub moved : (before : ℕ) → before + 1 ≡ state.done → AreAlikeBeside (states before) state.file state.moved
 
--- the first breach of the states before the one after so many steps, or none
+-- the first breach of all, or none in the states before the one after `done` steps
 abbrev pub IsFirstSoFar : (states : ℕ → RegisterFile) → PolicyRow → (from to done : ℕ) → Option Breach → Type 0
 IsFirstSoFar states row from to done None = (k : ℕ) → from ≤ k → k < done → IsFirstIn (states k) row None
 IsFirstSoFar states row from to done (Some breach) = IsFirstBreach states row from to breach
 
--- the verdict by the states before the one after so many steps
+-- the verdict from the states before the one after `done` steps
 pub record IsVerdictBefore (states : ℕ → RegisterFile) (row : PolicyRow) (from to done : ℕ) (verdict : Option Breach)
     : Type 0 where
   pub asking : done ≤ to → IsFirstSoFar states row from to done verdict
   pub asked : to < done → IsVerdictBy row.demand states row from to verdict
 
--- the row is one beside this script, and is judged by the states before the one after so many steps
+-- the row is valid for this script, and judged by the states before the one after `done` steps
 pub record IsJudged (pace : Pace) (script : ScriptContents) (done : ℕ) (judged : Judged) : Type 0 where
   pub within : judged.row.to ≤ length script.batches
   pub from : judged.from ≡ step_count pace script.batches judged.row.from
@@ -40,7 +40,7 @@ pub record IsJudged (pace : Pace) (script : ScriptContents) (done : ℕ) (judged
 abbrev pub rows_of : List Judged → List PolicyRow
 rows_of all = map (λ judged. judged.row) all
 
--- a row's verdict by its breach, if it has one
+-- a row's verdict from its breach, if any
 abbrev pub verdict_on : Coming → Option Breach → Verdict
 verdict_on coming.Met None = Holds
 verdict_on coming.Met (Some breach) = Broken breach

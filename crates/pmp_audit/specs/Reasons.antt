@@ -1,4 +1,4 @@
--- Why an access is decided as it is after publications of a script, and what is found in a script.
+-- Why an access is decided as it is after publications of a script, and a script's findings.
 use Rattle.std.specs.Prelude.{◌≡◌, ℕ, List, [], ◌++◌, Option}
 use Rattle.pmp_core.specs.declared.access.Access.{Access}
 use Rattle.pmp_core.specs.declared.decision.Decision.{Decision}
@@ -12,11 +12,11 @@ use Rattle.pmp_lint.specs.Why.{AreAnswerRuns, IsWhy}
 use Rattle.pmp_lint.specs.WhyRows.{history_text, why_row}
 use Rattle.pmp_audit.specs.AskedFile.{SaysOfScript}
 
--- the reason's row, and then those of the decisions at all moments
+-- the reason's row, then those of the decisions at all moments
 abbrev pub reasons_text : Access → Because → List AnswerRun → List ℕ
 reasons_text access reason runs = why_row access reason ++ history_text access runs
 
--- the access is decided so once so many publications are done, and the text says why
+-- this is the decision on the access after `done` publications, and the text says why
 pub record IsReasonText (access : Access) (decision : Decision) (script : ScriptContents) (done : ℕ) (text : List ℕ)
     : Type 0 where
   pub reason : Because
@@ -29,6 +29,6 @@ pub record IsReasonText (access : Access) (decision : Decision) (script : Script
 abbrev pub ReasonsSay : (script : List ℕ) → Access → (after : Option When) → Decision → (text : List ℕ) → Type 0
 ReasonsSay script access after decision text = SaysOfScript (IsReasonText access decision) script after text
 
--- the text has the rows of what is found in the script and isn't accepted, of which there are so many
+-- the text has the rows of the script's findings that aren't accepted, and `told` counts them
 abbrev pub FindingsSay : (script : List ℕ) → List Accepted → (told : ℕ) → (text : List ℕ) → Type 0
 FindingsSay script accepted told text = LintSays script accepted [] text told

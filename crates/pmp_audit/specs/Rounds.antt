@@ -18,7 +18,7 @@ use Rattle.pmp_audit.specs.declared.shared_audit.job.Job.{Job}
 use Rattle.pmp_audit.specs.declared.shared_audit.job.Done.{Done}
 use Rattle.pmp_audit.specs.Working.{IsDealt, IsDone, StopsRound}
 
--- the rows at the front that ask for just so many publications
+-- the leading rows that ask for exactly `after` publications
 abbrev pub asking : (after : ℕ) → List Row → List Row
 asking after [] = []
 asking after (row ∷ rows) = if row.after == after then row ∷ asking after rows else []
@@ -27,14 +27,14 @@ asking after (row ∷ rows) = if row.after == after then row ∷ asking after ro
 abbrev pub decision_for : ScriptContents → Row → Decision
 decision_for script row = decision_of (file_of_script script row.after) row.access
 
--- the rows so far are decided, and those that are left ask for no fewer publications than these
+-- the rows so far are decided, and the others ask for at least `after` publications, in order
 pub record AreDecidedSoFar (script : ScriptContents) (rows : List Row) (after : ℕ) (decided : List Decision)
     : Type 0 where
   pub within : length decided ≤ length rows
   pub decisions : decided ≡ map (decision_for script) (take (length decided) rows)
   pub order : IsInOrder (length script.batches) after (afters (map row_fields (drop (length decided) rows)))
 
--- so many checkers, all of one unit
+-- `count` checkers, all of one unit
 pub record AreCheckersOf (unit : UnitId) (count : ℕ) (checkers : List Known) : Type 0 where
   pub many : length checkers ≡ count
   pub same_unit : All (λ checker. checker.unit ≡ unit) checkers
@@ -45,25 +45,25 @@ pub record IsJob (publisher : PublisherToken) (worker : ℕ) (job : Job) : Type 
   pub same_unit : job.checker.unit ≡ publisher.unit
   pub notice : job.notice ≡ known publisher.unit publisher.published
 
--- so many jobs, one for each worker
+-- `count` jobs, one for each worker
 pub record AreJobs (publisher : PublisherToken) (count : ℕ) (jobs : List Job) : Type 0 where
   pub many : length jobs ≡ count
   pub each : (worker : ℕ) (job : Job) → slice_get jobs worker ≡ Some job → IsJob publisher worker job
 
--- what the job of one of so many workers may come to: its rows of the round are decided, or something stopped it
+-- a worker's result for its job: its rows of the round are decided, or something stopped it
 pub record IsResult (workers first : ℕ) (rows : List Row) (job : Job) (result : Result Done AuditFault) : Type 0 where
   pub done : IfOk result (IsDone job.checker.unit (file_from job.checker.unit.base job.notice.list) job.worker workers
       first rows)
   pub refused : IfErr result (StopsRound job.notice.list)
 
--- each job has such a result, at its place
+-- each job has such a result, at the job's place
 pub record AreResults (workers first : ℕ) (rows : List Row) (jobs : List Job) (results : List (Result Done AuditFault))
     : Type 0 where
   pub many : length results ≡ length jobs
   pub each : (i : ℕ) (d : Result Done AuditFault) → i < length jobs → (job : Job)
       × ((e : Job) → slice_index_or jobs i e ≡ job) × IsResult workers first rows job (slice_index_or results i d)
 
--- each worker brings its share of these decisions, the first of which is of the row with this number
+-- each worker returns its share of these decisions; the first decision's row is numbered `first`
 abbrev pub AreDealt : (first : ℕ) → List Decision → List Done → Type 0
 AreDealt first made all = (worker : ℕ) (done : Done) → slice_get all worker ≡ Some done
     → IsDealt worker (length all) (enumerate_from first made) done.decisions.items

@@ -1,4 +1,4 @@
--- What is said of two scripts' register files, and when that is refused.
+-- Output about two scripts' register files, and when it is refused.
 use Rattle.std.specs.Prelude.{◌≡◌, ℕ, ◌+◌, ◌≤◌, Bool, true, false, List, [], ◌++◌, length, Option, Ok}
 use Rattle.pmp_core.specs.RegisterFile.{RegisterFile}
 use Rattle.pmp_map.specs.declared.compared.Aspect.{Aspect}
@@ -17,7 +17,7 @@ use Rattle.pmp_audit.specs.declared.fault.Side.TheVariants.{Old, New}
 use Rattle.pmp_audit.specs.declared.script_diff.AskedChanges.{AskedChanges}
 use Rattle.pmp_audit.specs.AskedFile.{FileRefuses, IsAsked}
 
--- the script means this, no more publications are asked for than it has, and so many of them give the file
+-- the script has these contents, and the publications asked for, which give the file
 pub record GivesFile (script : List ℕ) (after : Option When) (file : RegisterFile) : Type 0 where
   pub contents : ScriptContents
   pub script_means : script_meaning script ≡ Ok contents
@@ -26,7 +26,7 @@ pub record GivesFile (script : List ℕ) (after : Option When) (file : RegisterF
   pub within : done ≤ length contents.batches
   pub file_is : file ≡ file_of_script contents done
 
--- the text has a row for each of the longest ranges of bytes where the files differ by this aspect as is asked, and they
+-- the text has a row for each longest range of bytes where the files differ in this aspect as asked for, and the rows
 -- are counted
 pub record ChangesSay (aspect : Aspect) (old new : RegisterFile) (only : Option Only) (rows : ℕ) (text : List ℕ)
     : Type 0 where
@@ -35,12 +35,12 @@ pub record ChangesSay (aspect : Aspect) (old new : RegisterFile) (only : Option 
   pub text_is : text ≡ change_rows only runs
   pub counted : rows ≡ change_count only runs
 
--- the rows of locks, or none where they aren't asked for
+-- the rows of locks, or none if they aren't asked for
 abbrev pub LocksSay : (old new : RegisterFile) → Option Only → (has_locks : Bool) → (rows : ℕ) → (text : List ℕ) → Type 0
 LocksSay old new only true rows text = ChangesSay Locks old new only rows text
 LocksSay old new only false rows text = (rows ≡ 0) × (text ≡ [])
 
--- the rows of rights, and behind them those of locks
+-- the rows of rights, then those of locks
 pub record FilesSay (old new : RegisterFile) (asked : AskedChanges) (rows : ℕ) (text : List ℕ) : Type 0 where
   pub rights_rows : ℕ
   pub rights_text : List ℕ
@@ -51,7 +51,7 @@ pub record FilesSay (old new : RegisterFile) (asked : AskedChanges) (rows : ℕ)
   pub text_is : text ≡ rights_text ++ locks_text
   pub counted : rows ≡ rights_rows + locks_rows
 
--- both scripts give a file, and the text says where these differ as is asked
+-- both scripts give a file, and the text has the differences asked for
 pub record DiffSays (old : List ℕ) (old_after : Option When) (new : List ℕ) (new_after : Option When)
     (asked : AskedChanges) (rows : ℕ) (text : List ℕ) : Type 0 where
   pub old_file : RegisterFile
@@ -60,13 +60,13 @@ pub record DiffSays (old : List ℕ) (old_after : Option When) (new : List ℕ) 
   pub new_gives : GivesFile new new_after new_file
   pub changes : FilesSay old_file new_file asked rows text
 
--- the new script is refused as any is, where the old one gives a file
+-- the new script is refused like any other, if the old one gives a file
 abbrev pub NewRefuses : (old : List ℕ) → (old_after : Option When) → (new : List ℕ) → (new_after : Option When)
     → AuditFault → Type 0
 NewRefuses old old_after new new_after fault =
     ((file : RegisterFile) × GivesFile old old_after file) × FileRefuses new new_after fault
 
--- the old script's own fault, or it doesn't have what is asked for; then the same of the new one
+-- the old script's own fault, or it lacks what is asked for; then the same of the new one
 abbrev pub DiffRefuses : (old : List ℕ) → (old_after : Option When) → (new : List ℕ) → (new_after : Option When)
     → AuditFault → Type 0
 DiffRefuses old old_after new new_after (ScriptOf Old fault) = FileRefuses old old_after (Script fault)

@@ -18,18 +18,18 @@ pub record AreFaultless (script trace : List ℕ) : Type 0 where
   pub script_means : script_meaning script ≡ Ok contents
   pub trace_means : trace_meaning (moments_in contents) trace ≡ Ok rows
 
--- more events were seen than the publications have that some row asks for
+-- more events were seen than some row's publications have
 abbrev pub SawMore : Batches → List RowFields → (seen : ℕ) → Type 0
 SawMore batches rows seen = Any (λ row. event_count (take row.after batches) < seen) rows
 
--- what may stop it where there is no fault: no memory, no place in the unit, or more in it than a row asks for
+-- what may stop it without a fault: no memory, no place in the unit, or more events than a row asks for
 abbrev pub MayStop : Batches → List RowFields → AuditFault → Type 0
 MayStop batches rows Memory = ⊤
 MayStop batches rows (Share NoPlace) = ⊤
 MayStop batches rows (Moved moved) = SawMore batches rows moved.seen
 MayStop batches rows _ = ⊥
 
--- as an audit on one thread; or, where there is no fault, the unit has no place, or more than a row asks for
+-- as an audit on one thread; or without a fault, if the unit has no place, or more events than a row asks for
 abbrev pub SharedAuditRefuses : (script trace : List ℕ) → AuditFault → Type 0
 SharedAuditRefuses script trace (Share NoPlace) = AreFaultless script trace
 SharedAuditRefuses script trace (Moved moved) =

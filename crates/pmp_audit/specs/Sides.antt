@@ -7,7 +7,7 @@ use Rattle.pmp_audit.specs.declared.fault.Side.{Side}
 use Rattle.pmp_audit.specs.Answers.{Declines}
 use Rattle.pmp_audit.specs.AskedFile.{FileRefuses}
 
--- a script's fault as that of the one on this side
+-- a script's fault, with its side
 abbrev pub fault_on : Side → AuditFault → AuditFault
 fault_on side (Script fault) = ScriptOf side fault
 fault_on side BadAfter = BadAfterOf side

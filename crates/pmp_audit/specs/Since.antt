@@ -10,7 +10,7 @@ use Rattle.pmp_text.specs.declared.lines.since.Since.{Since}
 use Rattle.pmp_text.specs.EntryRows.{no_since}
 use Rattle.pmp_text.specs.Reports.{file_behind}
 
--- in a unit that begins with this file, entry i is so after the first k batches, and the batches behind them hold no reset
+-- from this file on, entry i is so after the first k batches, and the batches after those have no reset
 pub record IsFrom (is_so : RegisterFile → ℕ → Bool) (start : RegisterFile) (batches : List (List Event)) (i k : ℕ) : Type 0 where
   pub after : is_so (file_behind start (take k batches)) i ≡ true
   pub writes : list_all is_write (joined (drop k batches)) ≡ true
@@ -20,6 +20,6 @@ pub record IsSince (start : RegisterFile) (batches : List (List Event)) (i : ℕ
   pub frozen : IsLeast (IsFrom is_frozen start batches i) since.frozen
   pub held : IsLeast (IsFrom is_held start batches i) since.held
 
--- the list has it for each of the entries
+-- the list has this for each entry
 abbrev pub AreSince : (start : RegisterFile) → List (List Event) → List Since → Type 0
 AreSince start batches since = (i : ℕ) → i < start.profile.entries → IsSince start batches i (slice_index_or since i no_since)

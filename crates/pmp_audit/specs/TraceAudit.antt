@@ -1,4 +1,4 @@
--- What an audit says of a trace, and when it refuses.
+-- What an audit reports on a trace, and when it refuses.
 use Rattle.std.specs.Prelude.{◌≡◌, ◌⊎◌, ℕ, List, length, count_by, not, Ok, Err}
 use Rattle.pmp_core.specs.declared.decision.Decision.{Decision}
 use Rattle.pmp_text.specs.declared.trace.Row.{Row}
@@ -13,8 +13,8 @@ use Rattle.pmp_audit.specs.declared.fault.AuditFault.{AuditFault}
 use Rattle.pmp_audit.specs.declared.fault.AuditFault.TheVariants.{Script, Trace}
 use Rattle.pmp_audit.specs.declared.trace_audit.Summary.{Summary}
 
--- how many rows were decided, how many of them were refused, and the number of the first whose start is bare, where the
--- first of all has the number `first`
+-- the number of rows decided, of those refused, and the number of the first whose start is bare; rows are numbered from
+-- `first`
 abbrev pub summary_of : (first : ℕ) → List Row → List Decision → Summary
 summary_of first rows decisions = record {
   rows = length decisions;
@@ -22,12 +22,12 @@ summary_of first rows decisions = record {
   bare = first_bare first rows;
 }
 
--- the text is the report of rows that are decided so, and the decisions are counted
+-- the text is the report of rows with these decisions, and the decisions are counted
 pub record ReportSays (rows : List Row) (decisions : List Decision) (summary : Summary) (text : List ℕ) : Type 0 where
   pub report : text ≡ report_text rows decisions
   pub counted : summary ≡ summary_of 1 rows decisions
 
--- the script means this, the text is its report with the trace, and the report's decisions are counted
+-- the script has these contents, the text is its report for the trace, and the report's decisions are counted
 pub record AuditSays (script trace : List ℕ) (summary : Summary) (text : List ℕ) : Type 0 where
   pub contents : ScriptContents
   pub script_means : script_meaning script ≡ Ok contents
@@ -40,7 +40,7 @@ pub record IsFaultyTrace (script trace : List ℕ) (fault : TraceFault) : Type 0
   pub script_means : script_meaning script ≡ Ok contents
   pub trace_means : (trace_meaning (moments_in contents) trace ≡ Err fault) ⊎ (fault ≡ no_input_for_rows)
 
--- the script's own fault, then the trace's
+-- the script's own fault, or else the trace's
 abbrev pub AuditRefuses : (script trace : List ℕ) → AuditFault → Type 0
 AuditRefuses script trace (Script fault) = script_meaning script ≡ Err fault
 AuditRefuses script trace (Trace fault) = IsFaultyTrace script trace fault

@@ -13,12 +13,12 @@ use Rattle.pmp_audit.specs.declared.fault.AuditFault.{AuditFault}
 use Rattle.pmp_audit.specs.declared.fault.AuditFault.TheVariants.{Share, Moved, Memory}
 use Rattle.pmp_audit.specs.declared.shared_audit.job.Done.{Done}
 
--- a worker has those whose place modulo the number of workers is its own, in their order
+-- a worker has the items whose place modulo the number of workers is its own, in order
 abbrev pub IsDealt : {A : Type 0} → (worker workers : ℕ) → (all hand : List A) → Type 0
 IsDealt worker workers all hand =
     (place : ℕ) → place % workers ≡ worker → slice_get hand (place / workers) ≡ slice_get all place
 
--- what is known begins with batches that hold so many events and give this file
+-- a prefix of what is known has `count` events and gives this file
 pub record HasLearnt (known : Known) (count : ℕ) (file : RegisterFile) : Type 0 where
   pub told : Batches
   pub begins : StartsWith known.list told
@@ -36,8 +36,8 @@ StopsRound told _ = ⊥
 abbrev pub decided_in : RegisterFile → List Row → List Decision
 decided_in file rows = map (λ row. decision_of file row.access) rows
 
--- a worker's checker is of the same unit, and it brings the decisions in this file of the worker's rows, behind their
--- numbers, of which the first of all rows has this one
+-- a worker's checker is of the same unit, and it returns the decisions in this file on the worker's rows, with their
+-- numbers, which begin at `first` for all rows
 pub record IsDone (unit : UnitId) (file : RegisterFile) (worker workers first : ℕ) (rows : List Row) (done : Done)
     : Type 0 where
   pub same_unit : done.checker.unit ≡ unit

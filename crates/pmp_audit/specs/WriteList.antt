@@ -1,4 +1,4 @@
--- What is said of a script's events, and when that is refused.
+-- Output about a script's events, and when it is refused.
 use Rattle.std.specs.Prelude.{◌≡◌, ℕ, ◌+◌, ◌==◌, Bool, false, not, List, [], ◌++◌, length, map, take, count_by, fold, Ok, Err}
 use Rattle.std.specs.List.{enumerate_from, flat_map, range_with_len, slice_index_or, zip}
 use Rattle.pmp_core.specs.declared.event.Event.{Event}
@@ -15,18 +15,18 @@ use Rattle.pmp_audit.specs.declared.write_list.EventSummary.{EventSummary}
 use Rattle.pmp_audit.specs.declared.write_list.WriteSummary.{WriteSummary}
 use Rattle.pmp_audit.specs.Expectations.{differing, expected_rows}
 
--- an event of a script, with the number of its publication and that of its line
+-- an event of a script, with the numbers of its publication and its line
 pub record PlacedEvent : Type 0 where
   pub publication : ℕ
   pub line : ℕ
   pub event : Event
 
--- the events of the publication with this number, which stand in these lines
+-- the events of the publication with this number, on these lines
 unfoldable pub placed : (publication : ℕ) → (lines : List ℕ) → List Event → List PlacedEvent
 placed publication lines events =
     map (λ (line, event). record { publication = publication; line = line; event = event }) (zip lines events)
 
--- the events of the first publications, which are numbered from 1
+-- the events of the first publications, numbered from 1
 abbrev pub events_of : ScriptContents → (count : ℕ) → List PlacedEvent
 events_of script count =
     flat_map (λ index.
@@ -36,11 +36,11 @@ events_of script count =
 abbrev pub placed_events : ScriptContents → List PlacedEvent
 placed_events script = events_of script (length script.batches)
 
--- the register file that the first k of these events leave
+-- the register file after the first k of these events
 abbrev pub file_before : (start : RegisterFile) → List PlacedEvent → (k : ℕ) → RegisterFile
 file_before start events k = fold step start (map (λ it. it.event) (take k events))
 
--- a row for each event, numbered from 1, in the file that the events before it leave
+-- a row for each event, numbered from 1, in the file after the events before it
 unfoldable pub rows_text : (start : RegisterFile) → List PlacedEvent → List ℕ
 rows_text start events =
     flat_map (λ (k, it).
@@ -48,23 +48,23 @@ rows_text start events =
     (file_before start events k) it.event)
     (enumerate_from 0 events)
 
--- a write that isn't stored as written, so that it has a reason
+-- a write that isn't stored as written, so it has a reason
 abbrev pub is_not_stored : RegisterFile → Event → Bool
 is_not_stored file (Write csr value) = not (register_value (written file csr value) csr == value)
 is_not_stored file Reset = false
 
--- how many events there are, and how many of them are such writes
+-- the number of events, and of such writes
 unfoldable pub event_summary : (start : RegisterFile) → List PlacedEvent → EventSummary
 event_summary start events = record {
   events = length events;
   not_stored = count_by (λ (k, it). is_not_stored (file_before start events k) it.event) (enumerate_from 0 events);
 }
 
--- the rows of events, and behind them those of what is expected
+-- the rows of events, then those of expectations
 abbrev pub all_rows : ScriptContents → List ℕ
 all_rows script = rows_text script.start (placed_events script) ++ expected_rows script script.expectations
 
--- what is counted of both
+-- the counts of both
 abbrev pub write_summary : ScriptContents → WriteSummary
 write_summary script =
     let of_events = event_summary script.start (placed_events script) in
@@ -75,7 +75,7 @@ write_summary script =
       differing = differing script script.expectations;
     }
 
--- the script means this, the text has a row for each of its events and of its expectations, and they are counted
+-- the script has these contents, the text has a row for each of its events and expectations, and they are counted
 pub record WritesSay (script : List ℕ) (summary : WriteSummary) (text : List ℕ) : Type 0 where
   pub contents : ScriptContents
   pub script_means : script_meaning script ≡ Ok contents

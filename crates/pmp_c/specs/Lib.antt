@@ -1,4 +1,4 @@
--- What a reader has to believe: what the numbers at the boundary mean.
+-- What a reader must trust: what the numbers at the boundary mean.
 pub mod RangeRights
 pub mod RunAnswer
 pub mod Questions

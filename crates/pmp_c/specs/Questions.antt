@@ -8,7 +8,7 @@ use Rattle.pmp_c.specs.declared.question.Question.{Question}
 use Rattle.pmp_c.specs.declared.unit.Unit.{Unit}
 use Rattle.pmp_c.specs.Unit.{file_of_unit, IsUnit}
 
--- the question has its answer, as the call for one access gives it, and asks what it asked
+-- the question has its answer, as the call for one access returns it, and is otherwise unchanged
 pub record IsAnswered (unit : Unit) (old new : Question) : Type 0 where
   pub asked : new ≡ record old { answer = new.answer }
   pub decided : (access : Access) → IsNamed access old.mode old.kind old.start old.length → IsUnit unit

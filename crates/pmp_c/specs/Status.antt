@@ -1,4 +1,4 @@
--- The number by which a call says whether it took a register's number, and what a write did.
+-- The number that a call returns: whether it accepted a register's number, and what a write did.
 use Rattle.std.specs.Prelude.{◌≡◌, ◌↔◌, ℕ, ◌+◌, ◌*◌, ◌/◌, ◌%◌, ◌<◌, if◌then◌else◌, Option, MatchOption, Result, Ok, Err}
 use Rattle.pmp_core.specs.declared.csr.Csr.{Csr}
 use Rattle.pmp_core.specs.declared.csr.Csr.TheVariants.{Cfg, Addr, Mseccfg, Mseccfgh}
@@ -32,22 +32,22 @@ found_on profile (Err fault) = Err fault
 abbrev pub register_in : RegisterFile → (number : ℕ) → Result Csr CsrFault
 register_in file number = found_on file.profile (numbered_on file.profile.is_rv32 number)
 
--- 0 where the call took it
+-- 0 if the call accepted it
 abbrev pub status_number : Result Csr CsrFault → ℕ
 status_number (Ok csr) = 0
 status_number (Err OddCfg) = 1
 status_number (Err NotPmp) = 2
 
--- the status of a call that was given a number that names no hart
+-- the status of a call with a number that names no hart
 abbrev pub no_hart : ℕ
 no_hart = 3
 
--- 4 where some register is another, and 256 times the reasons
+-- 4 if some register changed, plus 256 times the reasons
 abbrev pub write_number : Written → ℕ
 write_number answer = (if answer.is_changed then 4 else 0) + 256 * answer.reasons.0
 
--- a write to the register that left a unit, and the number that says of it whether any register is another, and why
--- this one doesn't read the value; it has no other bit
+-- a write to the register of a unit, and the number that gives whether any register changed, and why this one
+-- doesn't read the value; it has no other bit
 pub record IsWriteAnswer (old new : Unit) (csr : Csr) (value number : ℕ) : Type 0 where
   pub file : file_of_unit new ≡ written (file_of_unit old) csr value
   pub order : IsUnit old → IsUnit new
@@ -61,8 +61,8 @@ pub record IsWriteAnswer (old new : Unit) (csr : Csr) (value number : ℕ) : Typ
 abbrev pub ends : (first last : ℕ) → Span
 ends first last = record { first = first; last = last }
 
--- the same, and 8 more where some access may be decided otherwise: then the ends are the first and the last byte of
--- those by which it may be, and else they are as before
+-- the same, and 8 more if some access may be decided differently: then the ends are the first and the last byte that
+-- may be affected, else they are unchanged
 pub record IsMoveAnswer (old new : Unit) (csr : Csr) (value : ℕ) (were are : Span) (number : ℕ) : Type 0 where
   pub status : ℕ
   pub write : IsWriteAnswer old new csr value status

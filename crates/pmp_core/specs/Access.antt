@@ -1,4 +1,4 @@
--- What numbers make an access.
+-- Which numbers form an access.
 use Rattle.std.specs.Prelude.{◌≡◌, ℕ, ◌+◌, ◌^◌, Option, Some, None, nat_lt, ◌==◌, ◌||◌, if◌then◌else◌}
 use Rattle.pmp_core.specs.declared.access.Mode.{Mode}
 use Rattle.pmp_core.specs.declared.access.Kind.{Kind}

@@ -25,7 +25,7 @@ abbrev pub bit_of : Bool → ℕ
 bit_of true = 1
 bit_of false = 0
 
--- bits 6 and 5 are not looked at (3.7.1)
+-- bits 6 and 5 are ignored (3.7.1)
 abbrev pub configuration_of : ℕ → Configuration
 configuration_of byte = record {
   locked = byte / 128 == 1;
@@ -35,10 +35,10 @@ configuration_of byte = record {
   read = byte % 2 == 1;
 }
 
--- the byte of a configuration, whose bits 6 and 5 are zero (3.7.1)
+-- the byte of a configuration, with bits 6 and 5 zero (3.7.1)
 abbrev pub byte_of : Configuration → ℕ
 byte_of c = 128 * bit_of c.locked + 8 * field_of c.matching + 4 * bit_of c.execute + 2 * bit_of c.write + bit_of c.read
 
--- W without R, which is reserved where MML is 0 (3.7.1)
+-- W without R, which is reserved if MML is 0 (3.7.1)
 abbrev pub is_reserved : Configuration → Bool
 is_reserved c = c.write && not c.read

@@ -8,8 +8,8 @@ use Rattle.pmp_core.specs.declared.csr.CsrFault.TheVariants.{OddCfg, NotPmp}
 abbrev is_between : (low high n : ℕ) → Bool
 is_between low high n = nat_le low n && nat_le n high
 
--- pmpcfg0 to pmpcfg15 are 0x3a0 to 0x3af, of which RV64 has the even ones; pmpaddr0 to pmpaddr63 are 0x3b0 to 0x3ef;
--- mseccfg is 0x747, and mseccfgh, which RV32 has, is 0x757
+-- pmpcfg0 to pmpcfg15 are 0x3a0 to 0x3af, only the even ones on RV64; pmpaddr0 to pmpaddr63 are 0x3b0 to 0x3ef;
+-- mseccfg is 0x747, and mseccfgh, on RV32 only, is 0x757
 abbrev pub numbered_on : (is_rv32 : Bool) → ℕ → Result Csr CsrFault
 numbered_on is_rv32 number =
     if is_between 0x3a0 0x3af number

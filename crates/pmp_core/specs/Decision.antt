@@ -8,7 +8,7 @@ use Rattle.pmp_core.specs.RegisterFile.{RegisterFile}
 use Rattle.pmp_core.specs.Matching.{Matches}
 use Rattle.pmp_core.specs.Rights.{allows, rights, default_rights}
 
--- the least number with the property, or none where no number has it
+-- the least number with the property, or none if no number has it
 abbrev pub IsLeast : (ℕ → Type 0) → Option ℕ → Type 0
 IsLeast P None = (i : ℕ) → ¬ (P i)
 IsLeast P (Some i) = P i × ((j : ℕ) → j < i → ¬ (P j))
@@ -32,7 +32,7 @@ Covers file access i = (byte : ℕ) → IsByteOf access byte → Matches file i 
 abbrev pub IsDecider : RegisterFile → Access → Option ℕ → Type 0
 IsDecider file access = IsLeast (Touches file access)
 
--- no decider: the default; a decider that lacks a byte: refused; else the decider's rule (3.7.1.3)
+-- no decider: the default; a decider that misses a byte: refused; else the decider's rule (3.7.1.3)
 abbrev pub IsDecisionBy : RegisterFile → Access → Bool → Cause → Type 0
 IsDecisionBy file access allowed NoMatch =
     IsDecider file access None × (allowed ≡ allows (default_rights file access.mode) access.kind)

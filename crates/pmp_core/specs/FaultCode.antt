@@ -11,6 +11,6 @@ access_fault_code Fetch = 1
 access_fault_code Load = 5
 access_fault_code Store = 7
 
--- the code of a decision's fault, or none where the access is allowed
+-- the exception code of a refused access, or none if it is allowed
 abbrev pub fault_of : Access → Decision → Option ℕ
 fault_of access decision = if decision.allowed then None else Some (access_fault_code access.kind)

@@ -1,20 +1,20 @@
--- The grain of a hart's ranges, 2^(G+2) bytes (Volume II, 3.7.1.1).
+-- A hart's grain, 2^(G+2) bytes (Volume II, 3.7.1.1).
 use Rattle.std.specs.Prelude.{ℕ, ◌+◌, ◌-◌, ◌*◌, ◌/◌, ◌^◌, nat_lt, Bool, true, false, ◌&&◌, if◌then◌else◌}
 use Rattle.pmp_core.specs.Configuration.{Configuration}
 use Rattle.pmp_core.specs.declared.configuration.AddressMatching.{AddressMatching}
 use Rattle.pmp_core.specs.declared.configuration.AddressMatching.TheVariants.{Off, Tor, Na4, Napot}
 
--- bits G-1 to 0 of an address read as zeros where its mode is OFF or TOR, and do not matter to a top of range
+-- bits G-1 to 0 of an address read as zeros if A is OFF or TOR, and TOR matching ignores them
 abbrev pub tor_address : (grain address : ℕ) → ℕ
 tor_address grain address = address / 2 ^ grain * 2 ^ grain
 
--- bits G-2 to 0 read as ones where its mode is NAPOT
+-- bits G-2 to 0 read as ones if A is NAPOT
 abbrev pub napot_address : (grain address : ℕ) → ℕ
 napot_address grain address =
     let ones = 2 ^ (grain - 1) in
     address / ones * ones + (ones - 1)
 
--- what the address register of an entry reads, by its field A; all that was written to it is kept
+-- what an entry's pmpaddr reads, by its field A; all that was written to it is kept
 abbrev pub read_address : (grain : ℕ) → AddressMatching → (address : ℕ) → ℕ
 read_address grain Off address = tor_address grain address
 read_address grain Tor address = tor_address grain address
@@ -27,6 +27,6 @@ is_na4 Tor = false
 is_na4 Na4 = true
 is_na4 Napot = false
 
--- NA4 can't be chosen where G is not 0: as it is stored, the entry is OFF
+-- NA4 can't be chosen if G isn't 0: the entry is stored as OFF
 abbrev pub selectable : (grain : ℕ) → Configuration → Configuration
 selectable grain c = if nat_lt 0 grain && is_na4 c.matching then record c { matching = Off } else c

@@ -1,4 +1,4 @@
--- What the grain is for (Volume II, 3.7.1.1).
+-- What the grain guarantees (Volume II, 3.7.1.1).
 use Rattle.std.specs.Prelude.{◌≡◌, ◌↔◌, ℕ, ◌+◌, ◌/◌, ◌^◌}
 use Rattle.pmp_core.specs.Matching.{Matches}
 use Rattle.pmp_core.specs.RegisterFile.{RegisterFile, IsLegal}

@@ -1,4 +1,4 @@
--- What a hart has of physical memory protection, from the time that it is made on (Volume II, 3.7.1 and Smepmp).
+-- A hart's PMP parameters, fixed when it is made (Volume II, 3.7.1 and Smepmp).
 use Rattle.std.specs.Prelude.{ℕ, ◌-◌, ◌+◌, ◌*◌, ◌%◌, ◌^◌, ◌≤◌, ◌==◌, Bool, true, false, ◌&&◌, ◌||◌, nat_le, nat_lt, Option}
 use Rattle.std.specs.Prelude.{Some, None, if◌then◌else◌}
 use Rattle.pmp_core.specs.declared.hart.HartFault.{HartFault}
@@ -7,21 +7,21 @@ use Rattle.pmp_core.specs.declared.hart.Profile.{Profile}
 use Rattle.pmp_core.specs.declared.size.Size.{Size}
 use Rattle.pmp_core.specs.declared.size.Size.TheVariants.{Sixteen, SixtyFour}
 
--- how many bits a physical address has: pmpaddr has bits 33 to 2 of it on RV32, and on RV64 bits 55 to 2 (3.7.1)
+-- the number of physical address bits: pmpaddr holds bits 33 to 2 on RV32, and bits 55 to 2 on RV64 (3.7.1)
 abbrev pub fewest_bits : (is_rv32 : Bool) → ℕ
 fewest_bits is_rv32 = if is_rv32 then 32 else 34
 
 abbrev pub most_bits : (is_rv32 : Bool) → ℕ
 most_bits is_rv32 = if is_rv32 then 34 else 56
 
--- 0 to 64 entries (3.7.1), a grain of 4 to 4096 bytes (3.7.1.1), and addresses of as many bits as XLEN has
+-- 0 to 64 entries (3.7.1), a grain of 4 to 4096 bytes (3.7.1.1), and as many address bits as XLEN permits
 pub record IsProfile (profile : Profile) : Type 0 where
   pub few : profile.entries ≤ 64
   pub fine : profile.grain ≤ 10
   pub wide : fewest_bits profile.is_rv32 ≤ profile.address_bits
   pub narrow : profile.address_bits ≤ most_bits profile.is_rv32
 
--- why there is no such hart
+-- why no such hart exists
 abbrev pub hart_fault : Profile → Option HartFault
 hart_fault profile =
     if nat_lt 64 profile.entries then Some Entries
@@ -30,15 +30,15 @@ hart_fault profile =
     || nat_lt (most_bits profile.is_rv32) profile.address_bits
     then Some AddressBits else None))
 
--- how many word addresses there are: without bits 1 and 0 (3.7.1)
+-- the number of word addresses: bits 1 and 0 are dropped (3.7.1)
 abbrev pub word_addresses : Profile → ℕ
 word_addresses profile = 2 ^ (profile.address_bits - 2)
 
--- how many bytes of entries pmpcfg q has: four on RV32, and on RV64 eight, or none where q is odd (3.7.1)
+-- how many configuration bytes pmpcfg q has: four on RV32; on RV64 eight, or none if q is odd (3.7.1)
 abbrev pub bytes_in : Profile → (q : ℕ) → ℕ
 bytes_in profile q = if profile.is_rv32 then 4 else (if q % 2 == 0 then 8 else 0)
 
--- they are those of the entries from 4q on
+-- pmpcfg q has the bytes of the entries from 4q on
 abbrev pub holds_byte_of : Profile → (q i : ℕ) → Bool
 holds_byte_of profile q i = nat_le (4 * q) i && nat_lt i (4 * q + bytes_in profile q)
 
@@ -47,7 +47,7 @@ abbrev pub count_of : Size → ℕ
 count_of Sixteen = 16
 count_of SixtyFour = 64
 
--- so many entries of RV64, the finest grain, the widest addresses, and Smepmp
+-- n entries, RV64, the finest grain, the widest addresses, and Smepmp
 abbrev pub profile_with : ℕ → Profile
 profile_with n = record { is_rv32 = false; entries = n; grain = 0; address_bits = 56; has_smepmp = true }
 

@@ -1,4 +1,4 @@
--- What a reader has to believe: the manual's rules.
+-- What a reader must trust: the manual's rules.
 pub mod Access
 pub mod Csr
 pub mod Configuration
@@ -21,9 +21,9 @@ pub mod Writing
 pub mod Histories
 pub mod Lock
 pub mod SavedRegisters
--- How decisions are computed: a law says that they are the same.
+-- How decisions are computed: a law proves the result the same.
 pub mod Ranges
--- Laws of these definitions, which are proved, with the words that they alone need.
+-- Laws of these definitions, all proved, with the terms that only they need.
 pub mod SpanLaw
 pub mod RightsLaw
 pub mod LockLaw

@@ -4,7 +4,7 @@ use Rattle.pmp_core.specs.declared.lock.Lock.{Lock}
 use Rattle.pmp_core.specs.declared.lock.Lock.TheVariants.{Open, Bypassed, Frozen}
 use Rattle.pmp_core.specs.RegisterFile.{RegisterFile, entry_at, is_frozen}
 
--- locked where the entry is frozen, bypassed where L is set all the same, and open where it is clear
+-- frozen if L is set and RLB clear, bypassed if both are set, and open if L is clear
 abbrev pub lock_of : RegisterFile → ℕ → Lock
 lock_of file i =
     if is_frozen file i then Frozen

@@ -6,7 +6,7 @@ use Rattle.pmp_core.specs.Entry.{Entry}
 use Rattle.pmp_core.specs.Grain.{napot_address, tor_address}
 use Rattle.pmp_core.specs.RegisterFile.{RegisterFile, entry_at}
 
--- the address register before it, and 0 before the first (3.7.1.1, top of range)
+-- the address of the entry before, or 0 for entry 0 (3.7.1.1, top of range)
 abbrev pub low_address : List Entry → ℕ → ℕ
 low_address entries zero = 0
 low_address entries (suc i) = (entry_at entries i).address

@@ -7,7 +7,7 @@ use Rattle.pmp_core.specs.Configuration.{bit_of}
 abbrev pub mseccfg_value : MseccfgFields → ℕ
 mseccfg_value mseccfg = bit_of mseccfg.mml + 2 * bit_of mseccfg.mmwp + 4 * bit_of mseccfg.rlb
 
--- the fields of a value, of which the other bits are ignored
+-- the fields of a value; its other bits are ignored
 abbrev pub mseccfg_fields : ℕ → MseccfgFields
 mseccfg_fields value = record {
   mml = value % 2 == 1;
@@ -15,7 +15,7 @@ mseccfg_fields value = record {
   rlb = value / 4 % 2 == 1;
 }
 
--- after a write: MML and MMWP stay set; RLB stays clear where it was clear and some entry is locked
+-- after a write: MML and MMWP stay set; RLB stays clear if it was clear and some entry is locked
 abbrev pub mseccfg_written : MseccfgFields → (is_any_locked : Bool) → (value : ℕ) → MseccfgFields
 mseccfg_written before is_any_locked value =
     let new = mseccfg_fields value in

@@ -17,17 +17,17 @@ use Rattle.pmp_core.specs.Rights.{allows, rule_rights}
 use Rattle.pmp_core.specs.Histories.{is_write}
 use Rattle.pmp_core.specs.LockLaw.{StaysFrozen}
 
--- one of the entries 0 to i decides the access, wholly or in part
+-- one of entries 0 to i is the access's decider, even by a partial match
 abbrev pub IsDecidedWithin : RegisterFile → Access → ℕ → Type 0
 IsDecidedWithin file access i = (j : ℕ) × (j ≤ i) × IsDecider file access (Some j)
 
--- lockdown gives no rule a right that it hasn't without, but for the combinations that are reserved without
+-- setting MML gives no rule a new right, except the combinations that are reserved while MML is 0
 abbrev pub FewerRightsLaw : Type 0
 FewerRightsLaw = (c : Configuration) → is_reserved c ≡ false → (mode : Mode) (kind : Kind)
     → IsTrue (allows (rule_rights true c mode) kind) → IsTrue (allows (rule_rights false c mode) kind)
 
--- what entries 0 to i decide in the first they decide so in the second, where MML is the same; and what they refuse in
--- the first is refused in the second
+-- if MML is unchanged, each access that entries 0 to i decide before is decided the same after; and what they refuse
+-- before is refused after
 pub record StaysProtected (before after : RegisterFile) (i : ℕ) : Type 0 where
   pub decided : after.mseccfg.mml ≡ before.mseccfg.mml → (access : Access) → IsDecidedWithin before access i
       → (decision : Decision) → IsDecision before access decision ↔ IsDecision after access decision
@@ -35,13 +35,13 @@ pub record StaysProtected (before after : RegisterFile) (i : ℕ) : Type 0 where
       → IsDecision before access one → IsDecision after access other → one.allowed ≡ false → other.allowed ≡ false
   pub held : is_held after i ≡ true
 
--- entries 0 to i, where all are frozen, protect so through every list of writes, also where MML rises
+-- if entries 0 to i are all frozen, they protect like this through every list of writes, even one that sets MML
 abbrev pub ProtectedLaw : Type 0
 ProtectedLaw = (file : RegisterFile) (i : ℕ) (events : List Event) → IsLegal file → is_held file i ≡ true
     → list_all is_write events ≡ true → StaysProtected file (fold step file events) i
 
--- under lockdown, with some entry frozen, each fetch that machine mode is allowed after any writes is by an entry that
--- was frozen before, and has the same configuration and the same bytes (Smepmp)
+-- if MML is set and some entry is frozen, each fetch that M-mode is allowed after any writes is by an entry that was
+-- frozen before, and has the same configuration and the same bytes (Smepmp)
 abbrev pub MachineCodeLaw : Type 0
 MachineCodeLaw = (file : RegisterFile) (k : ℕ) (events : List Event) → IsTrue file.mseccfg.mml
     → is_frozen file k ≡ true → list_all is_write events ≡ true → (access : Access) (decision : Decision)

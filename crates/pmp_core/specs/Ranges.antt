@@ -1,4 +1,4 @@
--- The same decision computed from the entries' ranges: `laws::law_decided_by_ranges` says that it is the manual's.
+-- The same decision computed from entries' ranges: `laws::law_decided_by_ranges` proves it equal to the manual's.
 use Rattle.std.specs.Prelude.{ℕ, suc, ◌+◌, ◌*◌, ◌/◌, ◌^◌, ◌<◌, ◌≤◌, Bool, ◌&&◌, nat_le, nat_lt, min}
 use Rattle.std.specs.Prelude.{max, if◌then◌else◌, List, [], ◌∷◌, length, map}
 use Rattle.std.specs.List.{range_with_len, slice_index_or}
@@ -27,14 +27,14 @@ napot_range address =
     let start = address / 2 ^ (k + 1) * 2 ^ (k + 3) in
     record { start = start; end = start + 2 ^ (k + 3) }
 
--- where an entry matches, if any byte at all
+-- what an entry matches; nothing if end isn't above start
 abbrev pub range_by : (grain : ℕ) → AddressMatching → (low address : ℕ) → ByteRange
 range_by grain Off low address = record { start = 0; end = 0 }
 range_by grain Tor low address = record { start = 4 * tor_address grain low; end = 4 * tor_address grain address }
 range_by grain Na4 low address = record { start = 4 * address; end = 4 * address + 4 }
 range_by grain Napot low address = napot_range (napot_address grain address)
 
--- the range of entry i of these, on this hart
+-- entry i's range on this hart
 unfoldable pub range_on : Profile → List Entry → ℕ → ByteRange
 range_on profile entries i =
     let entry = entry_at entries i in
@@ -49,18 +49,18 @@ range_of file = range_on file.profile file.entries
 abbrev pub ranges_of : RegisterFile → List ByteRange
 ranges_of file = ranges_on file.profile file.entries
 
--- range i; past the last, an empty one
+-- range i, or an empty one past the last
 abbrev pub range_in : List ByteRange → ℕ → ByteRange
 range_in ranges i = slice_index_or ranges i (record { start = 0; end = 0 })
 
--- of the bytes from `start` up to `end`, without `end`: whether the range has one, and whether it has all
+-- whether the range has some byte, or every byte, from `start` up to but not including `end`
 abbrev pub is_touched : (start end : ℕ) → ByteRange → Bool
 is_touched start end range = nat_lt (max range.start start) (min range.end end)
 
 abbrev pub is_covered : (start end : ℕ) → ByteRange → Bool
 is_covered start end range = nat_le range.start start && nat_le end range.end
 
--- what decides them, where the first of these ranges is that of entry i
+-- the cause for these bytes, if the first of these ranges is entry i's
 unfoldable pub cause_from : (start end i : ℕ) → List ByteRange → Cause
 cause_from start end i [] = NoMatch
 cause_from start end i (range ∷ ranges) =
@@ -70,7 +70,7 @@ cause_from start end i (range ∷ ranges) =
 unfoldable pub cause_of : RegisterFile → (start end : ℕ) → Cause
 cause_of file start end = cause_from start end 0 (ranges_of file)
 
--- what the mode may do where this decides
+-- the mode's rights by this cause
 abbrev pub rights_by : RegisterFile → Mode → Cause → Rights
 rights_by file mode (Rule i) = rights file i mode
 rights_by file mode (Split i) = nothing

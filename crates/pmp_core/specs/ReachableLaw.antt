@@ -6,10 +6,10 @@ use Rattle.pmp_core.specs.Hart.{IsProfile}
 use Rattle.pmp_core.specs.RegisterFile.{RegisterFile, IsLegal}
 use Rattle.pmp_core.specs.Histories.{replay}
 
--- whatever events follow a reset, the file is legal
+-- after a reset and any events, the file is legal
 abbrev pub LegalLaw : Type 0
 LegalLaw = (profile : Profile) (events : List Event) → IsProfile profile → IsLegal (replay profile events)
 
--- every legal file is what some events leave of a reset
+-- every legal file is reached from reset by some events
 abbrev pub ReachableLaw : Type 0
 ReachableLaw = (file : RegisterFile) → IsLegal file → (events : List Event) × (replay file.profile events ≡ file)

@@ -12,13 +12,13 @@ use Rattle.pmp_core.specs.Grain.{selectable}
 use Rattle.pmp_core.specs.declared.hart.Profile.{Profile}
 use Rattle.pmp_core.specs.Hart.{IsProfile, word_addresses}
 
--- the hart that has it, the entries (3.7.1), and the bits MML, MMWP and RLB of mseccfg (Smepmp)
+-- the hart, its entries (3.7.1), and MML, MMWP and RLB of mseccfg (Smepmp)
 pub record RegisterFile : Type 0 where
   pub profile : Profile
   pub entries : List Entry
   pub mseccfg : MseccfgFields
 
--- the file of these parts, which code keeps apart
+-- the file of these parts, stored separately
 abbrev pub file_of : Profile → MseccfgFields → List Entry → RegisterFile
 file_of profile mseccfg entries = record { profile = profile; entries = entries; mseccfg = mseccfg }
 
@@ -35,11 +35,11 @@ reset_mseccfg = record { mml = false; mmwp = false; rlb = false }
 abbrev pub reset_file : Profile → RegisterFile
 reset_file profile = file_of profile reset_mseccfg (replicate profile.entries reset_entry)
 
--- entry i; where there is none, one that matches nothing and isn't locked
+-- entry i, or past the last, one that matches nothing and isn't locked
 abbrev pub entry_at : List Entry → ℕ → Entry
 entry_at entries i = slice_index_or entries i reset_entry
 
--- L is set, and rule-locking bypass is off (3.7.1.2 and Smepmp)
+-- L is set, and RLB is clear (3.7.1.2 and Smepmp)
 abbrev pub is_frozen : RegisterFile → ℕ → Bool
 is_frozen file i = (entry_at file.entries i).configuration.locked && not file.mseccfg.rlb
 
@@ -47,16 +47,16 @@ is_frozen file i = (entry_at file.entries i).configuration.locked && not file.ms
 abbrev pub is_held : RegisterFile → ℕ → Bool
 is_held file i = list_all (is_frozen file) (range_with_len 0 (i + 1))
 
--- no address register has more than 54 bits (3.7.1)
+-- every address has at most 54 bits (3.7.1)
 abbrev pub AreWords : List Entry → Type 0
 AreWords entries = (i : ℕ) → (entry_at entries i).address < WORD_ADDRESSES
 
--- and the grain has no more than 4096 bytes (3.7.1.1)
+-- and the grain is at most 4096 bytes (3.7.1.1)
 abbrev pub HasAddresses : RegisterFile → Type 0
 HasAddresses file = (file.profile.grain ≤ MAX_GRAIN) × AreWords file.entries
 
--- what every write keeps: as many entries as the hart has, no longer addresses, no reserved combination, no NA4 where it
--- can't be chosen, and no mseccfg where the hart has none
+-- what every write preserves: the hart's number of entries, addresses of at most its bits, no reserved combination if
+-- MML is 0, NA4 only if G is 0, and mseccfg all zero without Smepmp
 pub record IsLegal (file : RegisterFile) : Type 0 where
   pub profile : IsProfile file.profile
   pub count : length file.entries ≡ file.profile.entries

@@ -11,16 +11,16 @@ use Rattle.pmp_core.specs.Hart.{holds_byte_of}
 use Rattle.pmp_core.specs.Mseccfg.{mseccfg_value}
 use Rattle.pmp_core.specs.RegisterFile.{RegisterFile, entry_at}
 
--- entry i's byte in pmpcfg q, and zero where that register doesn't hold it (3.7.1)
+-- entry i's byte in pmpcfg q, or zero if that register doesn't hold it (3.7.1)
 abbrev pub byte_in : RegisterFile → (q i : ℕ) → ℕ
 byte_in file q i = if holds_byte_of file.profile q i then byte_of (entry_at file.entries i).configuration else 0
 
--- pmpcfg q, with the byte of entry 4q lowest (3.7.1)
+-- pmpcfg q, with entry 4q's byte lowest (3.7.1)
 unfoldable pub configuration_word : RegisterFile → (q : ℕ) → ℕ
 configuration_word file q =
     from_le_bytes w64 (map (λ j. byte_in file q (4 * q + j)) (range_with_len 0 ENTRIES_PER_CFG))
 
--- zero where the register holds nothing of an entry (3.7.1, and of addresses 3.7.1.1), and mseccfgh is zero (Smepmp)
+-- zero for entries that the hart lacks (3.7.1, and 3.7.1.1 for addresses), and mseccfgh is zero (Smepmp)
 abbrev pub register_value : RegisterFile → Csr → ℕ
 register_value file (Cfg q) = configuration_word file q
 register_value file (Addr i) =

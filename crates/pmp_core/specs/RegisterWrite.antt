@@ -1,4 +1,4 @@
--- What a write to a register leaves (Volume II, 3.7.1, 3.7.1.2 and Smepmp).
+-- What a register write does (Volume II, 3.7.1, 3.7.1.2 and Smepmp).
 use Rattle.std.specs.Prelude.{ℕ, suc, ◌-◌, ◌*◌, ◌%◌, ◌==◌, Bool, true, false, not, ◌&&◌, ◌||◌}
 use Rattle.std.specs.Prelude.{if◌then◌else◌, List, length, map, slice_index, slice_set}
 use Rattle.std.specs.List.{range_with_len, list_any}
@@ -19,17 +19,17 @@ use Rattle.pmp_core.specs.Mseccfg.{mseccfg_written}
 use Rattle.pmp_core.specs.RegisterFile.{RegisterFile, reset_file, entry_at, is_frozen}
 use Rattle.pmp_core.specs.Rights.{is_barred}
 
--- a reserved combination is stored as no rights at all (3.7.1)
+-- a reserved combination is stored with R, W and X clear (3.7.1)
 abbrev pub without_reserved : Configuration → Configuration
 without_reserved c = if is_reserved c then record c { read = false; write = false; execute = false } else c
 
--- what is stored of a new configuration over the old one, by MML and RLB (3.7.1 and Smepmp)
+-- what is stored when a configuration is written over another, by MML and RLB (3.7.1 and Smepmp)
 abbrev pub admitted : (mml rlb : Bool) → (old new : Configuration) → Configuration
 admitted false _ old new = without_reserved new
 admitted true false old new = if is_barred new.locked new.read new.write new.execute then old else new
 admitted true true old new = new
 
--- what a byte leaves over the configuration that was there, by G, MML and RLB (3.7.1.1, 3.7.1.2 and Smepmp)
+-- the configuration after a byte is written over another, by G, MML and RLB (3.7.1.1, 3.7.1.2 and Smepmp)
 abbrev pub stored_over : (grain : ℕ) → (mml rlb : Bool) → Configuration → ℕ → Configuration
 stored_over grain mml rlb old byte =
     if old.locked && not rlb then old else selectable grain (admitted mml rlb old (configuration_of byte))
@@ -46,7 +46,7 @@ holds profile (Addr k) i = i == k
 holds profile Mseccfg i = false
 holds profile Mseccfgh i = false
 
--- entry i after pmpcfg q is written, the lowest byte for the lowest entry
+-- entry i after pmpcfg q is written; the lowest byte is the lowest entry's
 abbrev pub configured : RegisterFile → (q value i : ℕ) → Entry
 configured file q value i =
     let entry = entry_at file.entries i in
@@ -61,7 +61,7 @@ is_tor Tor = true
 is_tor Na4 = false
 is_tor Napot = false
 
--- a frozen entry freezes its own address register, and as top of a range the one before it (3.7.1.2)
+-- a frozen entry freezes its own pmpaddr, and if it is TOR, also the one before (3.7.1.2)
 abbrev pub is_address_frozen : RegisterFile → ℕ → Bool
 is_address_frozen file i =
     is_frozen file i
@@ -77,11 +77,11 @@ address_written file i value =
 abbrev pub configurations_written : RegisterFile → (q value : ℕ) → List Entry
 configurations_written file q value = map (configured file q value) (range_with_len 0 (length file.entries))
 
--- some entry is locked, be it off or not (Smepmp)
+-- some entry is locked, even if it is OFF (Smepmp)
 abbrev pub is_any_locked : List Entry → Bool
 is_any_locked entries = list_any (λ entry. entry.configuration.locked) entries
 
--- mseccfg after it is written, which a hart without Smepmp doesn't have
+-- mseccfg after a write; unchanged on a hart without Smepmp
 abbrev pub security_written : RegisterFile → (value : ℕ) → MseccfgFields
 security_written file value =
     if file.profile.has_smepmp then mseccfg_written file.mseccfg (is_any_locked file.entries) value else file.mseccfg
@@ -93,7 +93,7 @@ written file (Addr i) value = record file { entries = address_written file i val
 written file Mseccfg value = record file { mseccfg = security_written file value }
 written file Mseccfgh value = file
 
--- one step; a reset keeps the hart
+-- one event; a reset keeps the profile
 abbrev pub step : RegisterFile → Event → RegisterFile
 step file Reset = reset_file file.profile
 step file (Write csr value) = written file csr value

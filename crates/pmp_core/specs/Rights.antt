@@ -1,4 +1,4 @@
--- What a rule allows, and what is allowed where no rule decides (Volume II, 3.7.1.2, 3.7.1.3 and Smepmp).
+-- What a rule allows, and what is allowed if no entry matches (Volume II, 3.7.1.2, 3.7.1.3 and Smepmp).
 use Rattle.std.specs.Prelude.{ℕ, ◌+◌, ◌*◌, Bool, true, false, nat_lt, length}
 use Rattle.pmp_core.specs.declared.access.Mode.{Mode}
 use Rattle.pmp_core.specs.declared.access.Mode.TheVariants.{M, S, U}
@@ -41,7 +41,7 @@ rw = record { read = true; write = true; execute = false }
 abbrev pub rwx : Rights
 rwx = record { read = true; write = true; execute = true }
 
--- the first of the two for machine mode, the second for the others
+-- the first of the two for M-mode, the second for S-mode and U-mode
 abbrev pub for_mode : Rights → Rights → Mode → Rights
 for_mode machine others M = machine
 for_mode machine others S = others
@@ -51,12 +51,12 @@ for_mode machine others U = others
 abbrev pub bits_of : Configuration → Rights
 bits_of c = record { read = c.read; write = c.write; execute = c.execute }
 
--- without lockdown: an unlocked rule doesn't bind machine mode (3.7.1.2)
+-- if MML is 0: an unlocked rule doesn't bind M-mode (3.7.1.2)
 abbrev pub plain_rights : (locked : Bool) → Rights → Mode → Rights
 plain_rights false bits = for_mode rwx bits
 plain_rights true bits = for_mode bits bits
 
--- with lockdown: L, R, W, X, and then what machine mode and what the others may do (the truth table of Smepmp)
+-- if MML is 1: L, R, W, X, and then the rights of M-mode and of S-mode and U-mode (the truth table of Smepmp)
 abbrev pub lockdown_rights : (l r w x : Bool) → Mode → Rights
 lockdown_rights false false false false = for_mode nothing nothing
 lockdown_rights false false false true = for_mode nothing x_only
@@ -84,13 +84,13 @@ rule_rights true c = lockdown_rights c.locked c.read c.write c.execute
 abbrev pub rights : RegisterFile → ℕ → Mode → Rights
 rights file i = rule_rights file.mseccfg.mml (entry_at file.entries i).configuration
 
--- for machine mode where no entry matches, by MML and MMWP (3.7.1.3 and Smepmp)
+-- for M-mode if no entry matches, by MML and MMWP (3.7.1.3 and Smepmp)
 abbrev pub machine_default : (mml mmwp : Bool) → Rights
 machine_default false false = rwx
 machine_default true false = rw
 machine_default _ true = nothing
 
--- for the others, whom a hart without entries lets do all (3.7.1.3)
+-- for S-mode and U-mode: all on a hart without entries, else none (3.7.1.3)
 abbrev pub others_default : (has_entries : Bool) → Rights
 others_default true = nothing
 others_default false = rwx
@@ -98,15 +98,15 @@ others_default false = rwx
 abbrev pub default_rights_by : (has_entries mml mmwp : Bool) → Mode → Rights
 default_rights_by has_entries mml mmwp = for_mode (machine_default mml mmwp) (others_default has_entries)
 
--- the hart has an entry, be it off or not
+-- the hart has an entry, even if it is OFF
 abbrev pub has_entries : RegisterFile → Bool
 has_entries file = nat_lt 0 (length file.entries)
 
--- what the mode may do where no entry matches
+-- what the mode may do if no entry matches
 abbrev pub default_rights : RegisterFile → Mode → Rights
 default_rights file = default_rights_by (has_entries file) file.mseccfg.mml file.mseccfg.mmwp
 
--- the combinations L R W X that no write adds under lockdown (Smepmp)
+-- the combinations L R W X that no write adds if MML is 1 and RLB is 0 (Smepmp)
 abbrev pub is_barred : (l r w x : Bool) → Bool
 is_barred true false false true = true
 is_barred true false true false = true

@@ -1,4 +1,4 @@
--- The registers of a unit as plain numbers, and the file that numbers stand for (Volume II, 3.7.1 and Smepmp).
+-- A unit's registers as plain numbers, and the file that numbers encode (Volume II, 3.7.1 and Smepmp).
 use Rattle.std.specs.Prelude.{◌≡◌, ℕ, ◌+◌, ◌*◌, ◌/◌, ◌%◌, ◌^◌, ◌==◌, Bool, true, not, ◌&&◌, ◌||◌}
 use Rattle.std.specs.Prelude.{if◌then◌else◌}
 use Rattle.std.specs.Prelude.{List, map, replicate, slice_index}
@@ -21,14 +21,14 @@ use Rattle.pmp_core.specs.RegisterWrite.{stored_over}
 
 -- ---- a hart as a number
 
--- RV64 with 16 entries, or 64, the finest grain, the widest addresses and Smepmp
+-- RV64 with 16 or 64 entries, the finest grain, the widest addresses and Smepmp
 abbrev pub is_usual : Profile → Bool
 is_usual profile =
     (profile.entries == ENTRIES || profile.entries == MAX_ENTRIES)
     && profile.grain == 0 && profile.address_bits == MAX_ADDRESS_BITS && profile.has_smepmp && not profile.is_rv32
 
--- of a usual hart how many entries there are; of another that in bits 7 to 0, how many bits an address has in 15 to 8,
--- whether there is Smepmp in 16, whether it is RV32 in 17, G in 31 to 24, and bit 32 set
+-- for a usual hart, the number of entries; for another, that in bits 7 to 0, the number of address bits in 15 to 8,
+-- whether it has Smepmp in 16, whether it is RV32 in 17, G in 31 to 24, and bit 32 set
 unfoldable pub hart_number : Profile → ℕ
 hart_number profile =
     if is_usual profile then profile.entries
@@ -44,16 +44,16 @@ spelled_hart number = record {
   has_smepmp = number / 2 ^ 16 % 2 == 1;
 }
 
--- bits 63 to 32 are 1 and bits 23 to 18 are 0, and there is such a hart
+-- bit 32 is the highest bit set, bits 23 to 18 are 0, and such a hart exists
 abbrev pub spells_hart : (number : ℕ) → Bool
 spells_hart number =
     number / 2 ^ 32 == 1 && number / 2 ^ 18 % 2 ^ 6 == 0 && is_none (hart_fault (spelled_hart number))
 
--- 16 and 64 name the usual harts, and any other number the one that it spells, if it spells one
+-- 16 and 64 name the usual harts, and any other number the hart that it encodes, if any
 unfoldable pub names_hart : (number : ℕ) → Bool
 names_hart number = number == ENTRIES || number == MAX_ENTRIES || spells_hart number
 
--- the hart that a number stands for: one that it spells, for 64 the usual one of 64 entries, and else that of 16
+-- the hart of a number: the one that it encodes; else the usual one, with 64 entries for 64 and else 16
 unfoldable pub saved_hart : (number : ℕ) → Profile
 saved_hart number =
     if spells_hart number then spelled_hart number
@@ -61,7 +61,7 @@ saved_hart number =
 
 -- ---- the registers
 
--- each register of sixty-four entries as it is stored (3.7.1), and the hart
+-- each register of 64 entries as it is stored (3.7.1), and the hart
 unfoldable pub saved_registers : RegisterFile → SavedRegisters
 saved_registers file = record {
   addresses = map (λ i. (entry_at file.entries i).address) (range_with_len 0 MAX_ENTRIES);
@@ -73,12 +73,12 @@ saved_registers file = record {
 abbrev pub hart_in : SavedRegisters → Profile
 hart_in saved = saved_hart saved.entries
 
--- mseccfg, where the hart has it
+-- mseccfg, if the hart has it
 abbrev pub fields_in : SavedRegisters → MseccfgFields
 fields_in saved = if (hart_in saved).has_smepmp then mseccfg_fields saved.mseccfg else reset_mseccfg
 
--- entry i as writes to a reset entry leave it, with bypass on: no longer addresses, reserved rights under lockdown
--- alone, and NA4 with the finest grain alone
+-- entry i as writes to a reset entry with RLB set leave it: the address cut to the hart's bits, reserved combinations
+-- only if MML is 1, and NA4 only if G is 0
 abbrev pub restored_entry : SavedRegisters → ℕ → Entry
 restored_entry saved i = record {
   configuration = stored_over (hart_in saved).grain (fields_in saved).mml true reset_entry.configuration
@@ -90,7 +90,7 @@ restored_entry saved i = record {
 abbrev pub restored_entries : SavedRegisters → (n : ℕ) → List Entry
 restored_entries saved n = map (restored_entry saved) (range_with_len 0 n)
 
--- the file that the numbers stand for, whatever they are
+-- the file that the numbers encode, whatever they are
 unfoldable pub restored_file : SavedRegisters → RegisterFile
 restored_file saved =
     file_of (hart_in saved) (fields_in saved) (restored_entries saved (hart_in saved).entries)
@@ -103,6 +103,6 @@ zero_registers = record {
   entries = 0;
 }
 
--- the numbers are those that their file is saved as
+-- the numbers are what their file is saved as
 abbrev pub IsCanonical : SavedRegisters → Type 0
 IsCanonical saved = saved_registers (restored_file saved) ≡ saved

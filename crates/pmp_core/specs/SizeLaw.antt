@@ -1,4 +1,4 @@
--- What a hart decides by its entries, one with more entries decides (Volume II, 3.7.1).
+-- A hart with more, unused entries decides the same (Volume II, 3.7.1).
 use Rattle.std.specs.Prelude.{◌≡◌, ◌↔◌, ℕ, ◌*◌, ◌<◌, ◌≤◌, nat_lt, ◌==◌, ◌||◌, Bool, true, List}
 use Rattle.std.specs.List.{list_all, range_with_len}
 use Rattle.pmp_core.specs.declared.access.Access.{Access}
@@ -15,7 +15,7 @@ use Rattle.pmp_core.specs.Histories.{replay}
 use Rattle.pmp_core.specs.Ranges.{decision_of}
 use Rattle.pmp_core.specs.WriteReasons.{byte_for}
 
--- a write for the first n entries: pmpcfg q with zeros for the others, pmpaddr i with i below n, mseccfg, mseccfgh; or a reset.
+-- a write to the first n entries: pmpcfg q with zeros for others, pmpaddr i for i < n, mseccfg, mseccfgh; or a reset.
 -- With n = 16 every write to pmpcfg0, pmpcfg2 and pmpaddr0 to pmpaddr15 is one
 abbrev pub writes_first : (n : ℕ) → Event → Bool
 writes_first n (Write (Cfg q) value) =
@@ -25,13 +25,13 @@ writes_first n (Write Mseccfg value) = true
 writes_first n (Write Mseccfgh value) = true
 writes_first n Reset = true
 
--- both files decide the access in the same way
+-- both files decide the access the same
 pub record DecideAlike (one other : RegisterFile) (access : Access) : Type 0 where
   pub by_bytes : (decision : Decision) → IsDecision one access decision ↔ IsDecision other access decision
   pub computed : decision_of one access ≡ decision_of other access
 
--- where the events write to a hart's first n entries alone, of which there is one at least, it has the same decisions
--- with n entries and with m, if m isn't less: sixteen and sixty-four are one case
+-- if the events write only to a hart's first n entries, and n is at least 1, it decides the same with n entries and
+-- with m, for any m from n on: 16 and 64 are one case
 abbrev pub SizeLaw : Type 0
 SizeLaw = (hart : Profile) (n m : ℕ) (events : List Event) (access : Access)
     → 0 < n → n ≤ m → IsProfile (record hart { entries = m }) → list_all (writes_first n) events ≡ true

@@ -10,7 +10,7 @@ use Rattle.pmp_core.specs.Ranges.{range_of}
 abbrev pub IsInSpan : Span → ℕ → Type 0
 IsInSpan span byte = (span.first ≤ byte) × (byte ≤ span.last)
 
--- addresses have 56 bits: of the bytes below 2^56, entry i matches none, or those of the span and no others
+-- addresses have 56 bits: of the bytes below 2^56, entry i matches none, or exactly those of the span
 abbrev pub IsSpan : RegisterFile → ℕ → Option Span → Type 0
 IsSpan file i None = (byte : ℕ) → byte < ADDRESS_LIMIT → ¬ (Matches file i byte)
 IsSpan file i (Some span) =
@@ -19,7 +19,7 @@ IsSpan file i (Some span) =
 
 -- ---- computed
 
--- the bytes of the range that are below 2^56
+-- the bytes of the range below 2^56
 abbrev pub span_in : ByteRange → Option Span
 span_in range =
     let end = min range.end ADDRESS_LIMIT in

@@ -29,7 +29,7 @@ all_reasons = Absent ∷ Bits ∷ Frozen ∷ Tor ∷ Reserved ∷ Lockdown ∷ S
 abbrev pub byte_for : (q value i : ℕ) → ℕ
 byte_for q value i = slice_index (to_le_bytes w64 value) (i - 4 * q)
 
--- the register has entry i's byte or address, and reads another than the value has
+-- the register holds entry i's byte or address, other than the value's
 abbrev pub is_changed : RegisterFile → Csr → (value i : ℕ) → Bool
 is_changed file (Cfg q) value i =
     holds_byte_of file.profile q i && not (byte_for q value i == byte_of (entry_at file.entries i).configuration)
@@ -39,11 +39,11 @@ is_changed file (Addr k) value i =
 is_changed file Mseccfg value i = false
 is_changed file Mseccfgh value i = false
 
--- a frozen entry is to change (3.7.1.2)
+-- the write would change a frozen entry (3.7.1.2)
 abbrev pub changes_frozen : RegisterFile → Csr → (value i : ℕ) → Bool
 changes_frozen file csr value i = is_frozen file i && is_changed file csr value i
 
--- the low end of a frozen entry's range is to change, and is of an entry that isn't frozen (3.7.1.2)
+-- the write would change the low bound of a frozen TOR entry, and the entry before isn't frozen (3.7.1.2)
 abbrev pub is_low_end : RegisterFile → Csr → (value i : ℕ) → Bool
 is_low_end file (Cfg q) value i = false
 is_low_end file (Addr k) value i =
@@ -51,7 +51,7 @@ is_low_end file (Addr k) value i =
 is_low_end file Mseccfg value i = false
 is_low_end file Mseccfgh value i = false
 
--- W without R is to be stored over an entry that isn't frozen, and MML is 0 (3.7.1)
+-- W without R would be stored in an entry that isn't frozen, and MML is 0 (3.7.1)
 abbrev pub adds_reserved : RegisterFile → Csr → (value i : ℕ) → Bool
 adds_reserved file (Cfg q) value i =
     holds_byte_of file.profile q i && not (is_frozen file i) && not file.mseccfg.mml
@@ -60,7 +60,7 @@ adds_reserved file (Addr k) value i = false
 adds_reserved file Mseccfg value i = false
 adds_reserved file Mseccfgh value i = false
 
--- a barred rule is to be added over an entry that isn't frozen, MML is 1 and RLB is 0 (Smepmp)
+-- a barred rule would be stored in an entry that isn't frozen, MML is 1 and RLB is 0 (Smepmp)
 abbrev pub adds_barred : RegisterFile → Csr → (value i : ℕ) → Bool
 adds_barred file (Cfg q) value i =
     let new = configuration_of (byte_for q value i) in
@@ -70,8 +70,8 @@ adds_barred file (Addr k) value i = false
 adds_barred file Mseccfg value i = false
 adds_barred file Mseccfgh value i = false
 
--- NA4 is to be stored over an entry that isn't frozen, or an address that the entry doesn't read so, and the grain is
--- above four bytes (3.7.1.1)
+-- NA4 would be stored in an entry that isn't frozen, or an address wouldn't read as written by the entry's A, and the
+-- grain is above four bytes (3.7.1.1)
 abbrev pub is_too_fine : RegisterFile → Csr → (value i : ℕ) → Bool
 is_too_fine file (Cfg q) value i =
     holds_byte_of file.profile q i && not (is_frozen file i) && nat_lt 0 file.profile.grain
@@ -81,7 +81,7 @@ is_too_fine file (Addr k) value i =
 is_too_fine file Mseccfg value i = false
 is_too_fine file Mseccfgh value i = false
 
--- whether this is a reason for entry i, which only five of the reasons can be
+-- whether this is a reason for entry i; only five of the reasons can be
 abbrev pub is_entry_reason : WriteReason → RegisterFile → Csr → (value i : ℕ) → Bool
 is_entry_reason Absent file csr value i = false
 is_entry_reason Bits file csr value i = false
@@ -97,20 +97,20 @@ is_entry_reason Grain file csr value i = is_too_fine file csr value i
 abbrev pub has_reason : RegisterFile → Csr → (value i : ℕ) → Bool
 has_reason file csr value i = list_any (λ reason. is_entry_reason reason file csr value i) all_reasons
 
--- the numbers of the entries for which some reason holds
+-- the numbers of the entries that have some reason
 abbrev pub entries_with_reasons : RegisterFile → Csr → (value : ℕ) → List ℕ
 entries_with_reasons file csr value =
     filter (has_reason file csr value) (range_with_len 0 (length file.entries))
 
 -- ---- the whole register
 
--- the value has a byte other than zero that isn't for one of the first n entries (3.7.1)
+-- the value has a nonzero byte that isn't for one of the first n entries (3.7.1)
 abbrev pub has_absent_byte : Profile → (n q value : ℕ) → Bool
 has_absent_byte profile n q value =
     list_any (λ i. not (byte_for q value i == 0) && not (holds_byte_of profile q i && nat_lt i n))
     (range_with_len (4 * q) ENTRIES_PER_CFG)
 
--- the value isn't zero for an entry, or a register, that the hart doesn't have (3.7.1)
+-- the value is nonzero for an entry or a register that the hart lacks (3.7.1)
 abbrev pub is_absent : RegisterFile → Csr → (value : ℕ) → Bool
 is_absent file (Cfg q) value = has_absent_byte file.profile (length file.entries) q value
 is_absent file (Addr i) value = not (value == 0) && not (nat_lt i (length file.entries))
@@ -121,15 +121,15 @@ is_absent file Mseccfgh value = not (value == 0) && not (file.profile.has_smepmp
 abbrev pub has_bit_6_or_5 : (byte : ℕ) → Bool
 has_bit_6_or_5 byte = not (byte / 32 % 4 == 0)
 
--- bits 6 and 5 of a byte, those of an address above its hart's, 63 to 3 of mseccfg, and all of mseccfgh, if they are
--- there (3.7.1 and Smepmp)
+-- bits 6 and 5 of a byte, address bits beyond the hart's, bits 63 to 3 of mseccfg, and all of mseccfgh, if the hart has
+-- it (3.7.1 and Smepmp)
 abbrev pub has_other_bits : Profile → Csr → (value : ℕ) → Bool
 has_other_bits profile (Cfg q) value = list_any has_bit_6_or_5 (to_le_bytes w64 value)
 has_other_bits profile (Addr i) value = not (value / word_addresses profile == 0)
 has_other_bits profile Mseccfg value = profile.has_smepmp && not (value / 8 == 0)
 has_other_bits profile Mseccfgh value = not (value == 0) && (profile.has_smepmp && profile.is_rv32)
 
--- MML or MMWP is to be cleared (Smepmp)
+-- the write would clear MML or MMWP (Smepmp)
 abbrev pub clears_sticky : MseccfgFields → Csr → (value : ℕ) → Bool
 clears_sticky mseccfg (Cfg q) value = false
 clears_sticky mseccfg (Addr i) value = false
@@ -138,7 +138,7 @@ clears_sticky mseccfg Mseccfg value =
     (mseccfg.mml && not new.mml) || (mseccfg.mmwp && not new.mmwp)
 clears_sticky mseccfg Mseccfgh value = false
 
--- RLB is to be set, and some entry is locked, if mseccfg is there (Smepmp)
+-- the write would set RLB while some entry is locked, on a hart with mseccfg (Smepmp)
 abbrev pub sets_bypass : RegisterFile → Csr → (value : ℕ) → Bool
 sets_bypass file (Cfg q) value = false
 sets_bypass file (Addr i) value = false

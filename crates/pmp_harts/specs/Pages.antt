@@ -17,7 +17,7 @@ abbrev pub IsInside : Access → Mode → (start length : ℕ) → Type 0
 IsInside access mode start length =
     (access.mode ≡ mode) × (start ≤ access.start) × (access.start + access.length ≤ start + length)
 
--- an access of the mode in the range is allowed where the rights have the bit of its kind
+-- an access of the mode in the range is allowed if the rights have the bit of its kind
 abbrev pub HasRights : Known → Mode → (start length : ℕ) → Perms → Type 0
 HasRights known mode start length rights =
     (access : Access) → access.mode ≡ mode → start ≤ access.start → access.start + access.length ≤ start + length

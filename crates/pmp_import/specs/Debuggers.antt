@@ -1,4 +1,4 @@
--- What a line says in which a debugger shows a register.
+-- How a debugger's line that shows a register is read.
 use Rattle.std.specs.Prelude.{ℕ, List, [], ◌∷◌, Bool, true, false, ◌&&◌, ◌||◌, ◌==◌, slice_index, Option, Some, None, Result}
 use Rattle.std.specs.Prelude.{Ok, Err, codes, bytes_eq, if◌then◌else◌}
 use Rattle.std.specs.List.{list_all}
@@ -19,12 +19,12 @@ use Rattle.pmp_import.specs.Said.{and_then, behind, hex_number, is_of_rv32, name
 
 -- ---- a register
 
--- the register that is called so where XLEN is 32, or 64
+-- the register with this name if XLEN is 32, or 64
 unfoldable pub csr_named : (is_rv32 : Bool) → List ℕ → Option Csr
 csr_named is_rv32 name = if names_register name
     then (elim (register_named is_rv32 name) [ Ok csr ↦ Some csr | Err refusal ↦ None ]) else None
 
--- a name and a value, of a hart whose XLEN is said to be 32, or may be either
+-- a name and a value, of a hart whose XLEN is shown as 32, or may be either
 unfoldable pub shown : (is_of_32 : Bool) → Option Csr → (value : List ℕ) → Option Told
 shown is_of_32 csr value =
     and_then csr (λ register. and_then (hex_number value) (λ held. Some (record {
@@ -35,7 +35,7 @@ shown is_of_32 csr value =
       is_rv32 = is_of_32 || is_of_rv32 register;
     })))
 
--- digits, perhaps behind a minus
+-- only digits and minus signs
 abbrev pub is_decimal : List ℕ → Bool
 is_decimal word = list_all (λ byte. is_digit byte 10 || byte == 45) word
 
@@ -50,20 +50,20 @@ unfoldable pub dump_shown : List (List ℕ) → Option Told
 dump_shown (name ∷ value ∷ []) = shown false (csr_named true name) value
 dump_shown _ = None
 
--- the register's size, behind its name: (/64): or (/32):
+-- the register's size, after its name: (/64): or (/32):
 unfoldable pub sized_shown : (name size value : List ℕ) → Option Told
 sized_shown name size value =
     if bytes_eq size (codes "(/64):") then shown false (csr_named false name) value
     else (if bytes_eq size (codes "(/32):") then shown true (csr_named true name) value else None)
 
--- pmpcfg0 (/64): 0x00009b0f888b8d1b, perhaps with (dirty) behind it
+-- pmpcfg0 (/64): 0x00009b0f888b8d1b, perhaps followed by (dirty)
 unfoldable pub size_shown : List (List ℕ) → Option Told
 size_shown (name ∷ size ∷ value ∷ []) = sized_shown name size value
 size_shown (name ∷ size ∷ value ∷ dirty ∷ []) =
     if bytes_eq dirty (codes "(dirty)") then sized_shown name size value else None
 size_shown _ = None
 
--- perhaps behind its number, as (4132)
+-- perhaps after its number, such as (4132)
 unfoldable pub openocd_shown : List (List ℕ) → Option Told
 openocd_shown [] = None
 openocd_shown (word ∷ more) = if slice_index word 0 == 40 then size_shown more else size_shown (word ∷ more)
@@ -78,12 +78,12 @@ shown_by Dump words = dump_shown words
 abbrev pub is_prompt : List ℕ → Bool
 is_prompt word = bytes_eq word (codes "(gdb)") || bytes_eq word (codes ">")
 
--- what stands behind prompts
+-- the words after prompts
 abbrev pub behind_prompts : List (List ℕ) → List (List ℕ)
 behind_prompts [] = []
 behind_prompts (word ∷ more) = if is_prompt word then behind_prompts more else word ∷ more
 
--- what is typed behind a prompt, and the answer where a register isn't known
+-- what is typed after a prompt, and the reply if a register isn't known
 abbrev pub is_typed : List (List ℕ) → Bool
 is_typed [] = false
 is_typed (word ∷ more) = is_prompt word || bytes_eq word (codes "Invalid")
@@ -98,7 +98,7 @@ thread_said (word ∷ number ∷ opening ∷ id ∷ cpu ∷ more) =
     ]) else Ok Nothing
 thread_said _ = Ok Nothing
 
--- a line that names a register shows it, is typed, or is refused; one that doesn't may be the head of a thread
+-- a line that names a register shows it, is typed, or is refused; any other may be the head of a thread
 unfoldable pub debugger_said : Debugger → List ℕ → Result Said Refusal
 debugger_said debugger line =
     if names_register line

@@ -1,4 +1,4 @@
--- The forms of logs.
+-- The formats of logs.
 use Rattle.std.specs.Prelude.{List, ℕ, Option, Some, None, Result, codes, bytes_eq, if◌then◌else◌}
 use Rattle.pmp_text.specs.declared.refusal.Refusal.{Refusal}
 use Rattle.pmp_import.specs.declared.format.Format.{Format}
@@ -24,7 +24,7 @@ source_text OpenOcd = codes "OpenOCD's registers"
 source_text Spike = codes "Spike's commits"
 source_text Dump = codes "a dump"
 
--- what a line of such a log says, or why it is refused
+-- what a line of such a log means, or why it is refused
 abbrev pub line_said : Format → List ℕ → Result Said Refusal
 line_said Qemu line = qemu_said line
 line_said Gdb line = debugger_said debugger.Gdb line

@@ -21,28 +21,28 @@ use Rattle.pmp_import.specs.Formats.{line_said, source_text}
 
 -- ---- the head
 
--- what a hart line says of a number, where it is said
+-- a hart line for a number, if it is given
 unfoldable pub number_line : (name : List ℕ) → Option ℕ → List ℕ
 number_line name None = []
 number_line name (Some number) = hart_line name (decimal number) []
 
--- 16 entries are what a hart has where nothing is said
+-- 16 entries are the default
 unfoldable pub other_entries : ℕ → Option ℕ
 other_entries entries = if entries == 16 then None else Some entries
 
--- and it is one of RV64
+-- and so is RV64
 unfoldable pub xlen_line : (is_rv32 : Bool) → List ℕ
 xlen_line is_rv32 = if is_rv32 then hart_line (codes "xlen") (codes "32") [] else []
 
--- with Smepmp
+-- and Smepmp
 unfoldable pub smepmp_line : (has_smepmp : Bool) → List ℕ
 smepmp_line has_smepmp = if has_smepmp then [] else hart_line (codes "smepmp") (codes "no") []
 
--- a name of the moment where it stands
+-- names the moment here
 abbrev pub mark_line : (name : List ℕ) → List ℕ
 mark_line name = codes "mark " ++ (name ++ 10 ∷ [])
 
--- the version, where the log comes from, what the hart is, and the name of the moment before its first event
+-- the version, the source of the log, the hart, and the name of the moment before its first event
 unfoldable pub head_text : Given → List ℕ
 head_text given =
     codes "pmp 3" ++ 10 ∷ (codes "# from " ++ (source_text given.format ++ (codes ", hart "
@@ -51,7 +51,7 @@ head_text given =
     ++ (number_line (codes "grain") given.grain ++ (number_line (codes "bits") given.bits
     ++ (smepmp_line given.has_smepmp ++ mark_line (codes "start"))))))))))
 
--- ---- a line's lines
+-- ---- the script lines for a log line
 
 -- `0x` and as few digits as the value has
 abbrev pub hex_text : ℕ → List ℕ
@@ -74,7 +74,7 @@ abbrev pub kept_of : (is_rv32 : Bool) → Csr → ℕ → ℕ
 kept_of false (Addr number) value = value % 2 ^ 54
 kept_of _ _ value = value
 
--- a register has this value, but for bits that no hart keeps
+-- a register has this value, except for bits that no hart stores
 abbrev pub kept_lines : (word : List ℕ) → (is_rv32 : Bool) → Csr → ℕ → List ℕ
 kept_lines word is_rv32 csr value =
     (if kept_of is_rv32 csr value == value then []
@@ -98,7 +98,7 @@ is_read Show = false
 abbrev pub write_lines : Told → List ℕ
 write_lines told = if is_write told.how then value_line (codes "write") told.register told.value else []
 
--- and what is known to be there then
+-- and what is then known of the register
 abbrev pub known_lines : (is_rv32 : Bool) → Told → List ℕ
 known_lines is_rv32 told = elim told.how [
   | Write ↦ []
@@ -107,17 +107,17 @@ known_lines is_rv32 told = elim told.how [
   | Show ↦ kept_lines (codes "set") is_rv32 told.register told.value
 ]
 
--- a register that a debugger shows as a reset leaves it
+-- a register that a debugger shows with its reset value
 abbrev pub is_unset : Told → Bool
 is_unset told = elim told.how [ Show ↦ told.value == 0 | _ ↦ false ]
 
--- ---- where a reading stands
+-- ---- the state of a reading
 
--- whether a line tells of the hart
+-- whether a line is about the hart
 abbrev pub is_of_hart : Given → Walk → Told → Bool
 is_of_hart given walk told = unwrap_or told.hart walk.shown == given.hart
 
--- a write ends its publication, but in a burst of fewer than 64
+-- a write ends its publication, except in a burst of fewer than 64
 abbrev pub ends : Given → Walk → Bool
 ends given walk = not given.bursts || nat_le BATCH_EVENTS (walk.pending + 1)
 
@@ -130,17 +130,17 @@ told_text given walk told =
     else source_line walk.line ++ (write_lines told ++ (publish_if (is_write told.how && ends given walk)
     ++ known_lines given.is_rv32 told)))
 
--- the moments behind resets are `reset`, `reset2`, `reset3` and so on
+-- the moments after resets are `reset`, `reset2`, `reset3` and so on
 abbrev pub reset_name : (number : ℕ) → List ℕ
 reset_name number = codes "reset" ++ (if number == 1 then [] else decimal number)
 
--- a reset of a hart that wasn't used since the last one is none
+-- a reset of a hart that wasn't used since the last one is dropped
 abbrev pub reset_text : Walk → List ℕ
 reset_text walk = publish_if (is_open walk) ++ (if walk.is_used
     then source_line walk.line ++ (codes "reset" ++ 10 ∷ (codes "publish" ++ 10 ∷ mark_line (reset_name walk.reset)))
     else [])
 
--- the lines of the script that a line gives; any but a write ends a burst
+-- the script lines for a log line; any but a write ends a burst
 abbrev pub said_text : Given → Walk → Said → List ℕ
 said_text given walk (Register told) =
     if is_of_hart given walk told then told_text given walk told else publish_if (is_open walk)
@@ -148,7 +148,7 @@ said_text given walk Reset = reset_text walk
 said_text given walk (Hart hart) = publish_if (is_open walk)
 said_text given walk Nothing = publish_if (is_open walk)
 
--- behind a line that gives no event
+-- after a line that gives no event
 abbrev pub behind_line : Walk → Walk
 behind_line walk = record walk { line = min (walk.line + 1) (2 ^ 64 - 1); pending = 0 }
 
@@ -174,12 +174,12 @@ behind_said given walk Nothing = behind_line walk
 
 -- ---- the whole
 
--- a register that only the other XLEN has, or a value that is too large for this one
+-- a register that only the other XLEN has, or a value too large for this one
 abbrev pub foreign : (is_rv32 : Bool) → Told → Option Refusal
 foreign true told = if nat_le (2 ^ 32) told.value then Some BadNumber else None
 foreign false told = if told.is_rv32 then Some OddCfg else None
 
--- the hart can't have what a line tells of it
+-- the hart can't have what a line shows of it
 abbrev pub line_fault : Given → Walk → Said → Option Refusal
 line_fault given walk (Register told) = if is_of_hart given walk told then foreign given.is_rv32 told else None
 line_fault given walk _ = None
@@ -188,7 +188,7 @@ abbrev pub unless : Option Refusal → Said → Result Said Refusal
 unless None said = Ok said
 unless (Some refusal) said = Err refusal
 
--- what a line says
+-- what a line means
 abbrev pub line_of : Given → Walk → List ℕ → Result Said Refusal
 line_of given walk line = elim (line_said given.format line) [
   | Ok said ↦ unless (line_fault given walk said) said
@@ -198,7 +198,7 @@ line_of given walk line = elim (line_said given.format line) [
 abbrev pub at : (line : ℕ) → Refusal → ImportFault
 at line refusal = record { kind = refusal; line = line }
 
--- an input gives no more lines: one that is too long is the next one
+-- no more lines can be read: if one is too long, it is the next one
 abbrev pub stop_at : (line : ℕ) → Refusal → ImportFault
 stop_at line TooLong = at line TooLong
 stop_at line refusal = at 0 refusal
@@ -207,7 +207,7 @@ abbrev pub with_front : (front : List ℕ) → Result (List ℕ) ImportFault →
 with_front front (Ok text) = Ok (front ++ text)
 with_front front (Err fault) = Err fault
 
--- what the lines give that are left, or the first fault
+-- what the remaining lines give, or the first fault
 abbrev pub imported_from : Given → Walk → List (List ℕ) → Result (List ℕ) ImportFault
 imported_from given walk [] = if walk.is_found then Ok (publish_if (is_open walk)) else Err (at 0 NoHart)
 imported_from given walk (line ∷ more) = elim (line_of given walk line) [

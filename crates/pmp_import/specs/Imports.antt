@@ -1,4 +1,4 @@
--- A log of any length that a reader gives: what it has, and its script, which a writer gets.
+-- A log of any length from a reader: what it has, and its script, which is written.
 use Rattle.std.specs.Prelude.{◌≡◌, ◌⊎◌, ℕ, ◌-◌, ◌^◌, ◌≤◌, List, ◌++◌, length, Option, Result, Ok, Err, IfSome, false}
 use Rattle.std.specs.List.{list_any}
 use Rattle.std.specs.Io.KnownBytes.{Appends}
@@ -12,18 +12,18 @@ use Rattle.pmp_import.specs.declared.whole_log.TheConstants.{MOST_LINES}
 use Rattle.pmp_import.specs.Imported.{at, imported}
 use Rattle.pmp_import.specs.Surveys.{surveyed}
 
--- the log is what the reader had, as far as that is known
+-- the log is what the reader had, as far as known
 abbrev pub IsLog : (had : Option (List ℕ)) → (log : List ℕ) → Type 0
 IsLog had log = IfSome had (λ those. log ≡ those)
 
 -- ---- stops
 
--- a line has so many bytes, or the log more than can be counted
+-- a line has at least `most` bytes, or the log too many to count
 abbrev pub IsTooLong : (most : ℕ) → (log : List ℕ) → Type 0
 IsTooLong most log = ((front line behind : List ℕ) × (log ≡ front ++ (line ++ behind))
     × (list_any is_line_feed line ≡ false) × (most ≤ length line)) ⊎ (2 ^ 64 - 1 ≤ length log)
 
--- why a reading that comes to this has no end
+-- why a reading with this result stops
 pub data Stops {X : Type 0} (comes_to : Result X ImportFault) (log : List ℕ) : ImportFault → Type 0 where
   refused : (fault : ImportFault) → comes_to ≡ Err fault → Stops comes_to log fault
   too_long : (fault : ImportFault) → fault.kind ≡ TooLong → IsTooLong MOST_LINES log → Stops comes_to log fault
@@ -41,7 +41,7 @@ pub record IsImported (given : Given) (had : Option (List ℕ)) (before after : 
   pub gives : imported given (lines log) ≡ Ok script
   pub written : Appends before after script
 
--- a part of it was written at most
+-- at most a part of it was written
 pub record CantImport (given : Given) (had : Option (List ℕ)) (before after : Option (List ℕ)) (fault : ImportFault)
     : Type 0
   where
@@ -53,7 +53,7 @@ pub record CantImport (given : Given) (had : Option (List ℕ)) (before after : 
 
 -- ---- the survey
 
--- what the log has was found, where this hart is asked for
+-- the log was surveyed, with this hart asked for
 pub record IsSurveyed (format : Format) (hart : Option ℕ) (had : Option (List ℕ)) (survey : Survey) : Type 0 where
   pub log : List ℕ
   pub is_log : IsLog had log

@@ -1,4 +1,4 @@
--- The statement of a law: what is found of a log is enough for its script.
+-- The statement of a law: a survey of a log suffices for its script.
 use Rattle.std.specs.Prelude.{◌≡◌, ℕ, List, Ok}
 use Rattle.std.specs.Result.{IsOk}
 use Rattle.pmp_import.specs.declared.format.Format.{Format}
@@ -8,7 +8,7 @@ use Rattle.pmp_import.specs.declared.survey.Survey.{Survey}
 use Rattle.pmp_import.specs.Imported.{imported}
 use Rattle.pmp_import.specs.Surveys.{given_for, surveyed}
 
--- a log in which nothing at fault was found has a script
+-- a log whose survey found no fault has a script
 abbrev pub SurveyedLaw : Type 0
 SurveyedLaw = (format : Format) (options : Options) (lines : List (List ℕ)) (survey : Survey) (given : Given)
     → surveyed format options.hart lines ≡ Ok survey → given_for format options survey ≡ Ok given

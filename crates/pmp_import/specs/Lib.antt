@@ -1,4 +1,4 @@
--- What a reader has to believe: what each line says, and which script a log gives.
+-- What a reader must trust: what each line means, and which script a log gives.
 pub mod Said
 pub mod Qemu
 pub mod Debuggers
@@ -8,7 +8,7 @@ pub mod Imported
 pub mod Imports
 pub mod Surveys
 pub mod LogTexts
--- A law of these definitions, which is proved.
+-- A law of these definitions, proved.
 pub mod Laws
--- The rest: the steps of a reading, which only private contracts cite.
+-- The rest: the steps of a reading, used only by private contracts.
 pub mod Steps

@@ -1,4 +1,4 @@
--- The script of a log that is at hand as a text.
+-- The script of a log given as a text.
 use Rattle.std.specs.Prelude.{◌≡◌, ◌⊎◌, ℕ, List, ◌++◌, Result, Ok, Err}
 use Rattle.pmp_text.specs.declared.refusal.Refusal.TheVariants.{Memory}
 use Rattle.pmp_import.specs.declared.fault.ImportFault.{ImportFault}
@@ -8,7 +8,7 @@ use Rattle.pmp_import.specs.declared.options.Options.{Options}
 use Rattle.pmp_import.specs.Imported.{at, imported}
 use Rattle.pmp_import.specs.Surveys.{given_for, surveyed}
 
--- the log was looked at, and what was found says what the script is of
+-- the log was surveyed, and the survey gives what the script is for
 abbrev pub given_by : Format → Options → List (List ℕ) → Result Given ImportFault
 given_by format options lines = elim (surveyed format options.hart lines) [
   | Ok survey ↦ given_for format options survey
@@ -29,6 +29,6 @@ pub record IsScriptOf (format : Format) (options : Options) (lines : List (List 
     pub gives : script_by format options lines ≡ Ok script
     pub appended : after ≡ before ++ script
 
--- the log gives none, or there is no memory
+-- the log gives none, or memory ran out
 abbrev pub GivesNone : Format → Options → (lines : List (List ℕ)) → ImportFault → Type 0
 GivesNone format options lines fault = (fault ≡ at 0 Memory) ⊎ (script_by format options lines ≡ Err fault)

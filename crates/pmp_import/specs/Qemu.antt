@@ -1,4 +1,4 @@
--- What a line of QEMU's log of trace events says. The events of PMP have this form from QEMU 7.2 to 11, behind what
+-- How a line of QEMU's log of trace events is read. PMP events have this form from QEMU 7.2 to 11, after what
 -- -msg timestamp=on writes:
 --   pmpcfg_csr_write hart 0: write reg0, val: 0x18
 --   pmpaddr_csr_read hart 0: read addr1, val: 0x2000ffff
@@ -21,12 +21,12 @@ use Rattle.pmp_import.specs.Said.{and_then, before, behind, hex_number, is_of_rv
 
 -- ---- the stamp
 
--- digits, - . : @ T Z and blanks, as of 2026-11-26T06:15:34.275174Z and of 1113@1795673733.795676:
+-- digits, - . : @ T Z and blanks, as in 2026-11-26T06:15:34.275174Z and 1113@1795673733.795676:
 abbrev pub is_stamp : ℕ → Bool
 is_stamp byte = (nat_le 48 byte && nat_le byte 57) || byte == 45 || byte == 46 || byte == 58 || byte == 64 || byte == 84
     || byte == 90 || byte == 32
 
--- what stands behind a line's stamp
+-- what follows a line's stamp
 unfoldable pub unstamped : List ℕ → List ℕ
 unstamped line = elim (position (λ byte. not (is_stamp byte)) line) [ Some start ↦ drop start line | None ↦ [] ]
 
@@ -36,7 +36,7 @@ unfoldable pub verb_named : List ℕ → Option How
 verb_named verb = if bytes_eq verb (codes "write") then Some Write
     else (if bytes_eq verb (codes "read") then Some Read else None)
 
--- the end of the name of an event that tells so
+-- the end of the name of such an event
 abbrev pub name_end : How → List ℕ
 name_end Write = codes "_csr_write"
 name_end _ = codes "_csr_read"
@@ -74,7 +74,7 @@ unfoldable pub names_event : List ℕ → Bool
 names_event line =
     occurs (codes "pmpcfg_csr_") line || occurs (codes "pmpaddr_csr_") line || occurs (codes "mseccfg_csr_") line
 
--- an event of a reset; a write or a read; a line that names such an event in another form, which is refused; or none
+-- a reset event; a write or a read; a line that names such an event in another form, which is refused; or nothing
 unfoldable pub qemu_said : List ℕ → Result Said Refusal
 qemu_said line =
     let event = unstamped line in

@@ -6,23 +6,23 @@ use Rattle.pmp_core.specs.declared.csr.Csr.{Csr}
 use Rattle.pmp_core.specs.declared.csr.Csr.TheVariants.{Cfg, Addr, Mseccfg, Mseccfgh}
 use Rattle.pmp_text.specs.Numbers.{numeral}
 
--- RV32 alone has the odd pmpcfg registers and mseccfgh
+-- only RV32 has the odd pmpcfg registers and mseccfgh
 abbrev pub is_of_rv32 : Csr → Bool
 is_of_rv32 (Cfg number) = number % 2 == 1
 is_of_rv32 (Addr number) = false
 is_of_rv32 Mseccfg = false
 is_of_rv32 Mseccfgh = true
 
--- one reading after another, the first of which may say nothing
+-- one reading after another; the first may give nothing
 abbrev pub and_then : {X Y : Type 0} → Option X → (X → Option Y) → Option Y
 and_then None next = None
 and_then (Some x) next = next x
 
--- what stands behind this beginning of a word
+-- what follows this prefix of a word
 abbrev pub behind : (front word : List ℕ) → Option (List ℕ)
 behind front word = if bytes_eq (take (length front) word) front then Some (drop (length front) word) else None
 
--- what stands before this end of a word
+-- what precedes this suffix of a word
 abbrev pub before : (end word : List ℕ) → Option (List ℕ)
 before end word = if bytes_eq (drop (length word - length end) word) end
     then Some (take (length word - length end) word) else None
@@ -31,10 +31,10 @@ before end word = if bytes_eq (drop (length word - length end) word) end
 abbrev pub hex_number : List ℕ → Option ℕ
 hex_number word = if bytes_eq (take 2 word) (codes "0x") then numeral 16 16 (drop 2 word) else None
 
--- the name stands somewhere in the line
+-- the name occurs in the line
 unfoldable pub occurs : (name line : List ℕ) → Bool
 occurs name line = is_some (first_of (matches line name 0))
 
--- a register's name stands in the line
+-- a register's name occurs in the line
 unfoldable pub names_register : List ℕ → Bool
 names_register line = occurs (codes "pmpcfg") line || occurs (codes "pmpaddr") line || occurs (codes "mseccfg") line

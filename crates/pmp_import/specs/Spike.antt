@@ -1,5 +1,5 @@
--- What a line of Spike's log of commits says. A commit has the hart, the mode, the address and the code of the
--- instruction, and then what it wrote: of a CSR the number, the name and the value that it has then. On RV32 addresses
+-- How a line of Spike's commit log is read. A commit has the hart, the mode, the address and the code of the
+-- instruction, and then what it wrote: for a CSR its number, its name and its new value. On RV32 addresses
 -- and values have eight digits:
 --   core   0: 3 0x0000000080000050 (0x3b051073) c944_pmpaddr0 0x0000000020000000
 use Rattle.std.specs.Prelude.{ℕ, List, [], ◌∷◌, length, take, Bool, true, false, ◌&&◌, ◌||◌, ◌==◌, Option, Some}
@@ -29,7 +29,7 @@ is_low_line byte = byte == 95
 abbrev pub csr_numbered : (is_rv32 : Bool) → (number : ℕ) → Option Csr
 csr_numbered is_rv32 number = elim (numbered_on is_rv32 number) [ Ok csr ↦ Some csr | Err fault ↦ None ]
 
--- a CSR by `c`, its number, an underscore and its name, which name the same one
+-- a CSR as `c`, its number, an underscore and its name, which name the same one
 unfoldable pub csr_committed : (is_rv32 : Bool) → List ℕ → Option Csr
 csr_committed is_rv32 word =
     and_then (behind (codes "c") (before_first is_low_line word)) (λ digits.
@@ -37,7 +37,7 @@ csr_committed is_rv32 word =
     and_then (register_number (after_first is_low_line word)) (λ named.
     if named == number && nat_lt number (2 ^ 16) then csr_numbered is_rv32 number else None)))
 
--- the first of the words that names a register is a CSR, its value stands behind it, and no word behind that names one
+-- the first word that names a register is a CSR, its value follows, and no later word names one
 unfoldable pub written_in : (hart : ℕ) → (is_rv32 : Bool) → List (List ℕ) → Option Told
 written_in hart is_rv32 [] = None
 written_in hart is_rv32 (word ∷ []) = None
@@ -68,7 +68,7 @@ commit_told (core ∷ number ∷ mode ∷ address ∷ code ∷ written) =
     if bytes_eq core (codes "core") && is_mode mode && is_code code then written_at number address written else None
 commit_told _ = None
 
--- of the lines that the option -l adds: a function's name, or an instruction's words behind its address
+-- lines that the option -l adds: a function's name, or an instruction after its address
 unfoldable pub is_listing : List (List ℕ) → Bool
 is_listing (core ∷ number ∷ word ∷ more) =
     bytes_eq core (codes "core") && (bytes_eq word (codes ">>>>") || bytes_eq (take 2 word) (codes "0x"))

@@ -1,4 +1,4 @@
--- A reading's steps, which only private contracts cite.
+-- A reading's steps, used only by private contracts.
 use Rattle.std.specs.Prelude.{◌≡◌, ◌⊎◌, ℕ, List, [], ◌++◌, Ok, Err}
 use Rattle.pmp_text.specs.declared.refusal.Refusal.TheVariants.{Memory}
 use Rattle.pmp_import.specs.declared.fault.ImportFault.{ImportFault}
@@ -9,14 +9,14 @@ use Rattle.pmp_import.specs.declared.survey.Survey.{Survey}
 use Rattle.pmp_import.specs.Imported.{at, imported_from, with_front}
 use Rattle.pmp_import.specs.Surveys.{surveyed_from}
 
--- these lines were taken, and their text was appended
+-- these lines were read, and their text was appended
 pub record GoesOn (given : Given) (old new : Walk) (lines : List (List ℕ)) (before after : List ℕ) : Type 0 where
   pub text : List ℕ
   pub appended : after ≡ before ++ text
   pub goes_on : (more : List (List ℕ)) → imported_from given old (lines ++ more)
       ≡ with_front text (imported_from given new more)
 
--- one of these lines is at fault, or there is no memory
+-- one of these lines is at fault, or memory ran out
 abbrev pub StopsAt : (given : Given) → (walk : Walk) → (lines : List (List ℕ)) → ImportFault → Type 0
 StopsAt given walk lines fault = (fault ≡ at 0 Memory)
     ⊎ ((more : List (List ℕ)) → imported_from given walk (lines ++ more) ≡ Err fault)
@@ -27,13 +27,13 @@ pub record EndsWith (given : Given) (walk : Walk) (before after : List ℕ) : Ty
   pub appended : after ≡ before ++ text
   pub ends : imported_from given walk [] ≡ Ok text
 
--- no line told of the hart, or there is no memory
+-- no line is about the hart, or memory ran out
 abbrev pub StopsAtEnd : (given : Given) → (walk : Walk) → ImportFault → Type 0
 StopsAtEnd given walk fault = (fault ≡ at 0 Memory) ⊎ (imported_from given walk [] ≡ Err fault)
 
--- ---- the first reading
+-- ---- the survey
 
--- these lines were looked at
+-- these lines were surveyed
 pub record FindsOn (format : Format) (old new : Survey) (lines : List (List ℕ)) : Type 0 where
   pub finds_on : (more : List (List ℕ)) → surveyed_from format old (lines ++ more) ≡ surveyed_from format new more
 

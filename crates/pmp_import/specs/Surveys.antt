@@ -1,4 +1,4 @@
--- What a first reading of a log finds, which says what the script is to have.
+-- What a survey of a log finds, which decides what the script has.
 use Rattle.std.specs.Prelude.{ℕ, ◌+◌, ◌-◌, ◌^◌, List, [], ◌∷◌, Bool, true, false, not, ◌&&◌, ◌||◌, ◌==◌, min, nat_le}
 use Rattle.std.specs.Prelude.{nat_lt, Option, Some, None, Result, Ok, Err, is_some, option_map, unwrap_or, if◌then◌else◌, slice_index}
 use Rattle.std.specs.Prelude.{slice_set}
@@ -21,12 +21,12 @@ use Rattle.pmp_import.specs.declared.survey.TheConstants.{COUNTED}
 use Rattle.pmp_import.specs.Formats.{line_said}
 use Rattle.pmp_import.specs.Imported.{at, is_read}
 
--- one more, as far as 64 bits go
+-- one more, up to 2^64 - 1
 abbrev pub one_more : ℕ → ℕ
 one_more count = min (count + 1) (2 ^ 64 - 1)
 
--- the first register of its kind that a hart of 16 entries doesn't have; a hart writes to the address register behind its
--- last one to see whether it is there
+-- a register that a hart of 16 entries doesn't have; a write to pmpaddr16 doesn't count, since such a hart may write it
+-- to see whether it is there
 abbrev pub is_high : How → Csr → Bool
 is_high how (Cfg number) = nat_le 4 number
 is_high Write (Addr number) = nat_le 17 number
@@ -40,7 +40,7 @@ needs_many told = not (told.value == 0) && is_high told.how told.register
 abbrev pub hart_of : Survey → Told → ℕ
 hart_of survey told = unwrap_or told.hart survey.shown
 
--- the writes of each of the first harts, with one more of this one
+-- the numbers of writes of the first harts, with one more for this hart
 abbrev pub counted : (hart : ℕ) → List ℕ → List ℕ
 counted hart writes = if nat_lt hart COUNTED then slice_set writes hart (one_more (slice_index writes hart)) else writes
 
@@ -48,11 +48,11 @@ counted hart writes = if nat_lt hart COUNTED then slice_set writes hart (one_mor
 abbrev pub first_line : Option ℕ → (is_one : Bool) → (line : ℕ) → Option ℕ
 first_line first is_one line = option_or first (if is_one then Some line else None)
 
--- whether the script is of this hart, as far as is known
+-- whether the script is of this hart, as far as known
 abbrev pub is_own : Survey → (hart : ℕ) → Bool
 is_own survey hart = unwrap_or survey.hart hart == hart
 
--- behind a write, or a register that is shown: the first one's hart is that of the script, where none is asked for
+-- after a write, or a register that is shown: if no hart is asked for, the script is of the first one's hart
 abbrev pub behind_found : Survey → (hart : ℕ) → Survey
 behind_found survey hart = record survey {
   hart = option_or survey.hart (Some hart);
@@ -61,7 +61,7 @@ behind_found survey hart = record survey {
   writes = counted hart survey.writes;
 }
 
--- what a line tells of a register of the hart
+-- what a line shows of a register of the hart
 abbrev pub with_told : Survey → Told → Survey
 with_told survey told = record survey {
   of_rv32 = first_line survey.of_rv32 told.is_rv32 survey.line;
@@ -69,13 +69,13 @@ with_told survey told = record survey {
   has_many = survey.has_many || needs_many told;
 }
 
--- behind a line that tells of a register
+-- after a line about a register
 abbrev pub behind_told : Survey → Told → Survey
 behind_told survey told =
     let seen = if is_own survey (hart_of survey told) then with_told survey told else survey in
     if is_read told.how then seen else behind_found seen (hart_of survey told)
 
--- behind a line that says this, but for its number
+-- after a line that means this, except for its number
 abbrev pub behind_said : Survey → Said → Survey
 behind_said survey (Register told) = behind_told survey told
 behind_said survey (Hart hart) = record survey { shown = hart }
@@ -92,7 +92,7 @@ surveyed_from format survey (line ∷ more) = elim (line_said format line) [
   | Err refusal ↦ Err (at survey.line refusal)
 ]
 
--- before the first line, where this hart is asked for
+-- before the first line, with this hart asked for
 abbrev pub nothing_found : (hart : Option ℕ) → Survey
 nothing_found hart = record {
   line = 1;
@@ -107,13 +107,13 @@ nothing_found hart = record {
   shown = 0;
 }
 
--- what a log with these lines has
+-- the survey of a log with these lines
 abbrev pub surveyed : Format → (hart : Option ℕ) → List (List ℕ) → Result Survey ImportFault
 surveyed format hart lines = surveyed_from format (nothing_found hart) lines
 
--- ---- what is given then
+-- ---- what is given for the script
 
--- an RV32 hart has no value from 2^32 on, and an RV64 hart no register that RV32 alone has; a log has to tell of its hart
+-- an RV32 hart has no value above 2^32 - 1, and an RV64 hart no register that only RV32 has; a log must show its hart
 abbrev pub survey_fault : (is_rv32 : Bool) → Survey → Option ImportFault
 survey_fault is_rv32 survey = option_or
     (elim is_rv32 [
@@ -121,7 +121,7 @@ survey_fault is_rv32 survey = option_or
       | false ↦ option_map (λ line. at line OddCfg) survey.of_rv32
     ]) (if survey.own == 0 then Some (at 0 NoHart) else None)
 
--- what is asked for, of a hart that is known so
+-- what is given for this hart, with the options
 abbrev pub given_of : Format → Options → (hart : ℕ) → (is_rv32 : Bool) → (entries : ℕ) → Given
 given_of format options hart is_rv32 entries = record {
   format = format;
@@ -134,7 +134,7 @@ given_of format options hart is_rv32 entries = record {
   bursts = options.bursts;
 }
 
--- of a log that is read once: hart 0 of RV64 with 16 entries, where nothing else is asked for
+-- for a log that is read once: by default hart 0, RV64 and 16 entries
 abbrev pub given_alone : Format → Options → Given
 given_alone format options = given_of format options (unwrap_or options.hart 0) (unwrap_or options.is_rv32 false)
     (unwrap_or options.entries 16)
@@ -143,7 +143,7 @@ abbrev pub given_unless : Option ImportFault → Given → Result Given ImportFa
 given_unless None given = Ok given
 given_unless (Some fault) given = Err fault
 
--- of a log that was surveyed
+-- for a log that was surveyed
 abbrev pub given_for : Format → Options → Survey → Result Given ImportFault
 given_for format options survey =
     let is_rv32 = unwrap_or options.is_rv32 (is_some survey.of_rv32) in

@@ -1,4 +1,4 @@
--- What is found in the register file that a script leaves (Volume II, 3.7.1 and Smepmp).
+-- Findings in a script's final register file (Volume II, 3.7.1 and Smepmp).
 use Rattle.std.specs.Prelude.{ℕ, ◌+◌, ◌-◌, ◌==◌, Bool, true, false, not, ◌&&◌, List, [], ◌∷◌, length, if◌then◌else◌}
 use Rattle.std.specs.Prelude.{Option, Some, None}
 use Rattle.std.specs.List.{flat_map, list_any, range_with_len}
@@ -26,7 +26,7 @@ end_of script = file_of_script script (length script.batches)
 abbrev pub changed_last : ScriptContents → Subject → ℕ
 changed_last script subject = changed_at script (length script.batches) subject
 
--- the finding, where it is one
+-- the finding, if it is one
 abbrev pub found_if : Bool → Finding → Option Finding
 found_if is finding = if is then Some finding else None
 
@@ -34,7 +34,7 @@ found_if is finding = if is then Some finding else None
 abbrev pub about_end : ScriptContents → Lint → (i : ℕ) → Finding
 about_end script lint i = about_entry lint (changed_last script (Entry i)) i (span_of (end_of script) i)
 
--- what is found of each entry, from the first on
+-- the findings of each entry, from the first on
 abbrev pub of_entries : RegisterFile → (ℕ → Option Finding) → List Finding
 of_entries file of_entry = flat_map (λ i. option_to_list (of_entry i)) (range_with_len 0 (length file.entries))
 
@@ -72,7 +72,7 @@ abbrev pub open_before_locked : ScriptContents → (i : ℕ) → Option Finding
 open_before_locked script i =
     found_if (is_open_before (end_of script) i) (about_end script OpenBeforeLocked i)
 
--- ---- never-decides: the entry is on, and owns no byte (3.7.1.3)
+-- ---- never-decides: the entry isn't OFF, and owns no byte (3.7.1.3)
 
 abbrev pub is_on : AddressMatching → Bool
 is_on Off = false
@@ -84,7 +84,7 @@ abbrev pub is_owner : (i : ℕ) → Option ℕ → Bool
 is_owner i None = false
 is_owner i (Some owner) = owner == i
 
--- of the runs of all bytes, one is the entry's
+-- one of the runs of all bytes is the entry's
 abbrev pub owns_some : List Run → (i : ℕ) → Bool
 owns_some runs i = list_any (λ run. is_owner i run.owner) runs
 

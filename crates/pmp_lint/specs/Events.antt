@@ -10,7 +10,7 @@ use Rattle.pmp_text.specs.Reports.{file_of_script}
 use Rattle.pmp_lint.specs.declared.subject.Subject.{Subject}
 use Rattle.pmp_lint.specs.declared.subject.Subject.TheVariants.{Bypass, Lockdown, Entry, Configuration, Address}
 
--- an event, with the register file that it comes to, and the number of its line
+-- an event, the register file before it, and the number of its line
 pub record Happening : Type 0 where
   pub before : RegisterFile
   pub event : Event
@@ -19,7 +19,7 @@ pub record Happening : Type 0 where
 abbrev pub file_after : Happening → RegisterFile
 file_after it = step it.before it.event
 
--- these events from this file on, the first of which stands in line k of these
+-- these events from this file on; the first has line number k of these
 abbrev pub happenings_from : (k : ℕ) → RegisterFile → List Event → (lines : List ℕ) → List Happening
 happenings_from k file [] lines = []
 happenings_from k file (event ∷ events) lines =
@@ -32,20 +32,20 @@ happenings_in script index =
     happenings_from 0 (file_of_script script index) (slice_index_or script.batches index [])
     (slice_index_or script.lines index [])
 
--- those of the first so many publications
+-- those of the first `count` publications
 abbrev pub happenings : ScriptContents → (count : ℕ) → List Happening
 happenings script count = flat_map (happenings_in script) (range_with_len 0 count)
 
 -- ---- what changes
 
--- entry i's configuration byte, and the word address that its register keeps (3.7.1)
+-- entry i's configuration byte, and the word address stored in its pmpaddr (3.7.1)
 abbrev pub byte_at : RegisterFile → (i : ℕ) → ℕ
 byte_at file i = byte_of (entry_at file.entries i).configuration
 
 abbrev pub address_at : RegisterFile → (i : ℕ) → ℕ
 address_at file i = (entry_at file.entries i).address
 
--- the subject is another after the event than before it
+-- the subject differs after the event
 abbrev pub differs : Subject → (before after : RegisterFile) → Bool
 differs Bypass before after = not (bit_of before.mseccfg.rlb == bit_of after.mseccfg.rlb)
 differs Lockdown before after =
@@ -59,7 +59,7 @@ differs (Address i) before after = not (address_at before i == address_at after 
 abbrev pub changes : Subject → Happening → Bool
 changes subject it = differs subject it.before (file_after it)
 
--- the last of these, or the other one where there is none
+-- the last of these, or the other one if there is none
 abbrev pub last_or : ℕ → List ℕ → ℕ
 last_or other [] = other
 last_or other (x ∷ xs) = last_or x xs
@@ -68,6 +68,6 @@ last_or other (x ∷ xs) = last_or x xs
 abbrev pub changing_lines : Subject → List Happening → List ℕ
 changing_lines subject all = map (λ it. it.line) (filter (changes subject) all)
 
--- the line of the last event of the first so many publications that changes it, or 0
+-- the line of the last event that changes it, of the first `count` publications, or 0
 abbrev pub changed_at : ScriptContents → (count : ℕ) → Subject → ℕ
 changed_at script count subject = last_or 0 (changing_lines subject (happenings script count))

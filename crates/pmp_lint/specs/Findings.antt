@@ -17,7 +17,7 @@ use Rattle.pmp_lint.specs.Lints.{lint_name, lint_named, lint_number}
 abbrev pub no_modes : Modes
 no_modes = record { machine = false; supervisor = false; user = false }
 
--- the two modes that have the same rights
+-- the two modes with the same rights
 abbrev pub supervisor_and_user : Modes
 supervisor_and_user = record { machine = false; supervisor = true; user = true }
 
@@ -69,7 +69,7 @@ accepted_at None line = None
 accepted_at (Some lint) None = None
 accepted_at (Some lint) (Some line) = Some (record { lint = lint; line = Some line })
 
--- what a word accepts: a lint's name, or one with a colon and a line behind it
+-- what a word accepts: a lint's name, or one followed by a colon and a line
 abbrev pub accepted_said : (word : List ℕ) → Option Accepted
 accepted_said word = elim (position is_colon word) [
   | None ↦ accepted_everywhere (lint_named word)
@@ -80,7 +80,7 @@ abbrev pub is_line : (accepted : Option ℕ) → (line : ℕ) → Bool
 is_line None line = true
 is_line (Some accepted) line = accepted == line
 
--- it has this name, and this line where one is said
+-- it has this name, and this line if one is given
 unfoldable pub accepts : Finding → Accepted → Bool
 accepts finding accepted =
     lint_number accepted.lint == lint_number finding.lint && is_line accepted.line finding.line
@@ -91,10 +91,10 @@ is_accepted accepted finding = list_any (accepts finding) accepted
 abbrev pub is_told : List Accepted → Finding → Bool
 is_told accepted finding = not (is_accepted accepted finding)
 
--- a row for each finding that isn't accepted, in their order
+-- a row for each finding that isn't accepted, in order
 abbrev pub told_rows : List Accepted → List Finding → List ℕ
 told_rows accepted findings = flat_map finding_row (filter (is_told accepted) findings)
 
--- how many rows these are
+-- the number of these rows
 abbrev pub told_count : List Accepted → List Finding → ℕ
 told_count accepted findings = count_by (is_told accepted) findings

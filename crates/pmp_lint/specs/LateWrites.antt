@@ -1,4 +1,4 @@
--- Writes that come too late: a frozen entry turns them away (Volume II, 3.7.1.2).
+-- Writes that come too late: a frozen entry blocks them (Volume II, 3.7.1.2).
 use Rattle.std.specs.Prelude.{ℕ, ◌&&◌, Bool, false, List, Option}
 use Rattle.std.specs.List.{flat_map}
 use Rattle.pmp_core.specs.declared.event.Event.{Event}
@@ -22,10 +22,10 @@ abbrev pub late_write : Happening → (i : ℕ) → Option Finding
 late_write it i =
     found_if (is_late it.before it.event i) (about_entry LateWrite it.line i (span_of it.before i))
 
--- of each entry that turns the write away
+-- for each entry that blocks the write
 abbrev pub late_writes_of : Happening → List Finding
 late_writes_of it = of_entries it.before (late_write it)
 
--- of each write of a script
+-- for each write of a script
 abbrev pub late_writes : ScriptContents → (count : ℕ) → List Finding
 late_writes script count = flat_map late_writes_of (happenings script count)

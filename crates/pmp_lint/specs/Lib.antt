@@ -1,4 +1,4 @@
--- What a reader has to believe: what is found, by which definition, its row, and which line of the script it names.
+-- What a reader must trust: what is found, by which definition, its row, and which line of the script it names.
 pub mod Lints
 pub mod Findings
 pub mod Events
@@ -10,8 +10,8 @@ pub mod Report
 pub mod TableRows
 pub mod Why
 pub mod WhyRows
--- A law of these definitions, which is proved.
+-- A law of these definitions, proved.
 pub mod EndStateLaw
--- The rest, which only private contracts cite.
+-- The rest, used only by private contracts.
 pub mod Adding
 pub mod Subjects

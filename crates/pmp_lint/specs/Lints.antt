@@ -1,4 +1,4 @@
--- What a script is looked at for: number, name and remedy.
+-- The lints: number, name and remedy.
 use Rattle.std.specs.Prelude.{ℕ, List, Option, Some, None, codes, bytes_eq, if◌then◌else◌}
 use Rattle.pmp_lint.specs.declared.lint.Lint.{Lint}
 use Rattle.pmp_lint.specs.declared.lint.Lint.TheVariants.{RlbLeftOn, MmwpOff, OpenBeforeLocked, NeverDecides}
@@ -33,7 +33,7 @@ lint_named word =
     else (if bytes_eq word (codes "open-between") then Some OpenBetween
     else (if bytes_eq word (codes "late-write") then Some LateWrite else None))))))
 
--- what mends it
+-- how to fix it
 abbrev pub remedy_text : Lint → List ℕ
 remedy_text RlbLeftOn = codes "Clear RLB in mseccfg once the entries are locked."
 remedy_text MmwpOff = codes "Set MMWP in mseccfg together with MML."

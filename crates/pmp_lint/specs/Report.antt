@@ -1,4 +1,4 @@
--- All findings of a script, and the text that tells them.
+-- All findings of a script, and their text.
 use Rattle.std.specs.Prelude.{◌≡◌, ◌⊎◌, ℕ, List, ◌++◌, length, Ok, Err}
 use Rattle.std.specs.Option.{option_to_list}
 use Rattle.pmp_map.specs.declared.run.Run.{Run}
@@ -15,18 +15,18 @@ use Rattle.pmp_lint.specs.LateWrites.{late_writes}
 use Rattle.pmp_lint.specs.OpenBetween.{AreOpenBetween}
 use Rattle.pmp_lint.specs.WriteAndExecute.{written_and_executed}
 
--- what is found of the bits of mseccfg and of the locks
+-- the findings on the bits of mseccfg and the locks
 abbrev pub of_locks : ScriptContents → List Finding
 of_locks script =
     option_to_list (rlb_left_on script) ++ option_to_list (mmwp_off script)
     ++ of_entries (end_of script) (open_before_locked script)
 
--- what is found by the runs of all bytes
+-- the findings from the runs of all bytes
 abbrev pub of_runs : ScriptContents → List Run → List Finding
 of_runs script runs = of_entries (end_of script) (never_decides script runs) ++ written_and_executed script runs
 
--- all that is found, lint after lint in the order of their numbers; the runs are those of the file that the script
--- leaves, of which there is one list
+-- all findings, in the order of the lints' numbers; the runs are those of the script's final file, which has only one
+-- list of them
 pub record AreFindings (script : ScriptContents) (findings : List Finding) : Type 0 where
   pub runs : List Run
   pub runs_are : AreRuns (end_of script) runs
@@ -34,8 +34,8 @@ pub record AreFindings (script : ScriptContents) (findings : List Finding) : Typ
   pub between_are : AreOpenBetween script (length script.batches) between
   pub all : findings ≡ of_locks script ++ of_runs script runs ++ between ++ late_writes script (length script.batches)
 
--- the script means this, and a row joined the text for each finding that isn't accepted, and none else, of which there
--- are so many
+-- the script has these contents, and a row was appended for each finding that isn't accepted, and for no other; `told`
+-- counts them
 pub record LintSays (script : List ℕ) (accepted : List Accepted) (before after : List ℕ) (told : ℕ) : Type 0 where
   pub contents : ScriptContents
   pub script_means : script_meaning script ≡ Ok contents
@@ -48,7 +48,7 @@ pub record LintSays (script : List ℕ) (accepted : List Accepted) (before after
 abbrev pub LintRefuses : (script : List ℕ) → ScriptFault → Type 0
 LintRefuses script fault = (script_meaning script ≡ Err fault) ⊎ (fault ≡ out_of_memory)
 
--- a script has one list of findings
+-- a script has only one list of findings
 abbrev pub OneListOfFindingsLaw : Type 0
 OneListOfFindingsLaw = (script : ScriptContents) (one other : List Finding) → AreFindings script one
     → AreFindings script other → one ≡ other

@@ -1,10 +1,10 @@
--- Which subjects there are.
+-- Which subjects exist.
 use Rattle.std.specs.Prelude.{◌<◌, ⊤}
 use Rattle.pmp_core.specs.declared.size.TheConstants.{MAX_ENTRIES}
 use Rattle.pmp_lint.specs.declared.subject.Subject.{Subject}
 use Rattle.pmp_lint.specs.declared.subject.Subject.TheVariants.{Bypass, Lockdown, Entry, Configuration, Address}
 
--- no hart has an entry of a higher number
+-- no hart has an entry with a higher number
 abbrev pub IsSubject : Subject → Type 0
 IsSubject Bypass = ⊤
 IsSubject Lockdown = ⊤

@@ -1,4 +1,4 @@
--- The rows of Smepmp's table in words, by L, R, W and X: `lockdown_rights` of pmp_core says the same as rights.
+-- The rows of Smepmp's table in words, by L, R, W and X: `lockdown_rights` of pmp_core gives the same as rights.
 use Rattle.std.specs.Prelude.{ℕ, Bool, true, false, List, codes}
 
 abbrev pub table_row : (l r w x : Bool) → List ℕ

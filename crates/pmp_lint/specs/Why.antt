@@ -19,24 +19,24 @@ use Rattle.pmp_lint.specs.declared.subject.Subject.TheVariants as subject
 use Rattle.pmp_lint.specs.declared.because.Because.{Because}
 use Rattle.pmp_lint.specs.Events.{changed_at}
 
--- the access's decision once so many publications are done; that it is the manual's says `laws::law_decided_by_ranges`
--- of pmp_core
+-- the access's decision after `done` publications; `laws::law_decided_by_ranges` of pmp_core proves that it is the
+-- manual's
 abbrev pub decided_at : ScriptContents → (done : ℕ) → Access → Decision
 decided_at script done access = decision_of (file_of_script script done) access
 
 -- ---- the entry that decides
 
--- L, R, W and X, which name a row of Smepmp's table where MML is set
+-- L, R, W and X, which name a row of Smepmp's table if MML is set
 abbrev pub rule_bits : Configuration → RuleBits
 rule_bits c = record { locked = c.locked; read = c.read; write = c.write; execute = c.execute }
 
--- the line that changed the low end of a range last: the address register before it (3.7.1.1, top of range)
+-- the line that last changed a TOR entry's low bound: the pmpaddr before its own (3.7.1.1, top of range)
 abbrev pub low_end_line : ScriptContents → (done i : ℕ) → Option ℕ
 low_end_line script done i =
     let matching = (entry_at (file_of_script script done).entries i).configuration.matching in
     if is_tor matching && nat_lt 0 i then Some (changed_at script done (subject.Address (i - 1))) else None
 
--- entry i as it is once so many publications are done, and the lines of the events that changed it last
+-- entry i after `done` publications, and the lines of the events that last changed it
 abbrev pub decoded : ScriptContents → (done i : ℕ) → Decider
 decoded script done i =
     let file = file_of_script script done in
@@ -56,13 +56,13 @@ decoded script done i =
 
 -- ---- since when
 
--- it is decided so at each moment from `since` on up to this one, and otherwise at the one before `since`
+-- it is decided so at each moment from `since` up to this one, and differently right before `since`
 pub record IsSince (script : ScriptContents) (done : ℕ) (access : Access) (since : ℕ) : Type 0 where
   pub within : since ≤ done
   pub same : (k : ℕ) → since ≤ k → k ≤ done → decided_at script k access ≡ decided_at script done access
   pub other : 0 < since → decided_at script (since - 1) access ≢ decided_at script done access
 
--- the decision, since when it is so, and the entry that decides, where one does
+-- the decision, since when it is so, and the deciding entry, if any
 pub record IsWhy (script : ScriptContents) (done : ℕ) (access : Access) (why : Because) : Type 0 where
   pub by_bytes : IsDecision (file_of_script script done) access why.decision
   pub since : IsSince script done access why.since
@@ -70,14 +70,14 @@ pub record IsWhy (script : ScriptContents) (done : ℕ) (access : Access) (why :
 
 -- ---- at every moment
 
--- the longest list of moments from its first on at which the access is decided so
+-- the longest sequence of moments, from its first on, with this decision
 pub record IsAnswerRun (script : ScriptContents) (access : Access) (run : AnswerRun) : Type 0 where
   pub proper : run.first ≤ run.last
   pub within : run.last ≤ length script.batches
   pub same : (k : ℕ) → run.first ≤ k → k ≤ run.last → decided_at script k access ≡ run.decision
   pub longest : run.last < length script.batches → decided_at script (run.last + 1) access ≢ run.decision
 
--- one such list after the other, from this moment on up to the end, which isn't one of them
+-- such sequences one after the other, from this moment up to but not including `end`
 abbrev pub AreAnswerRunsFrom : ScriptContents → Access → (first end : ℕ) → List AnswerRun → Type 0
 AreAnswerRunsFrom script access first end [] = first ≡ end
 AreAnswerRunsFrom script access first end (run ∷ rest) =

@@ -18,21 +18,21 @@ bit_text bit = if bit then codes "1" else codes "0"
 abbrev pub bits_text : RuleBits → List ℕ
 bits_text bits = bit_text bits.locked ++ (bit_text bits.read ++ (bit_text bits.write ++ bit_text bits.execute))
 
--- which table reads the bits: Smepmp's where MML is set
+-- which table the bits are read by: Smepmp's if MML is set
 abbrev pub table_text : (is_lockdown : Bool) → List ℕ
 table_text is_lockdown = if is_lockdown then codes "smepmp" else codes "plain"
 
 abbrev pub held_text : Bool → List ℕ
 held_text is_held = if is_held then codes "held" else codes "-"
 
--- how it matches, its bytes, its bits and their table, its locks, and the lines that changed it
+-- its matching, bytes, bits and their table, locks, and the lines that changed it
 abbrev pub decider_fields : Decider → List (List ℕ)
 decider_fields decider =
     matching_text decider.matching ∷ bytes_text decider.bytes ∷ bits_text decider.bits ∷ table_text decider.is_lockdown
     ∷ lock_text decider.lock ∷ held_text decider.is_held ∷ decimal decider.configured ∷ decimal decider.addressed
     ∷ optional_text decider.low_end ∷ []
 
--- the same many fields, all of them empty
+-- as many fields, all empty
 abbrev pub no_decider_fields : List (List ℕ)
 no_decider_fields = [] ∷ bytes_text None ∷ [] ∷ [] ∷ [] ∷ [] ∷ [] ∷ [] ∷ [] ∷ []
 
@@ -40,7 +40,7 @@ abbrev pub fields_of : Option Decider → List (List ℕ)
 fields_of None = no_decider_fields
 fields_of (Some decider) = decider_fields decider
 
--- since when, the decision, and the entry that decides
+-- since when, the decision, and the deciding entry
 unfoldable pub why_row : Access → Because → List ℕ
 why_row access why =
     decimal why.since ++ (codes "," ++ (answer_text why.decision.allowed
@@ -48,6 +48,6 @@ why_row access why =
     ++ (codes "," ++ (cause_text why.decision.cause
     ++ (codes "," ++ (optional_text (entry_of why.decision.cause) ++ fields_after (fields_of why.decider)))))))))
 
--- a report row for each run, whose number is its first moment
+-- a report row for each run, numbered by its first moment
 abbrev pub history_text : Access → List AnswerRun → List ℕ
 history_text access runs = flat_map (λ run. report_row run.first access run.decision) runs

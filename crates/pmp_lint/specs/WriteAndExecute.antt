@@ -18,7 +18,7 @@ use Rattle.pmp_lint.specs.EndState.{changed_last, end_of, found_if}
 abbrev pub writes_and_executes : Rights → Bool
 writes_and_executes rights = rights.write && rights.execute
 
--- the modes that the bytes of this owner, or of none, let do both
+-- the modes that may do both in the bytes of this owner, or of none
 abbrev pub writing_modes : RegisterFile → Option ℕ → Modes
 writing_modes file owner =
     let others = writes_and_executes (owned_rights file owner U) in
@@ -29,7 +29,7 @@ abbrev pub owner_line : ScriptContents → Option ℕ → ℕ
 owner_line script None = 0
 owner_line script (Some i) = changed_last script (Entry i)
 
--- of the longest range of bytes side by side that have one owner, or none
+-- for the longest range of adjacent bytes with one owner, or none
 abbrev pub write_and_execute : ScriptContents → Run → Option Finding
 write_and_execute script run =
     let modes = writing_modes (end_of script) run.owner in

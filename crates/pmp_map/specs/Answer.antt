@@ -13,21 +13,21 @@ cause_number (Rule i) = i
 cause_number (Split i) = 256 + i
 cause_number NoMatch = 512
 
--- the exception code (Volume II, 3.1.15), and 0 where the access is allowed
+-- the exception code (Volume II, 3.1.15), or 0 if the access is allowed
 abbrev pub fault_number : Kind → (allowed : Bool) → ℕ
 fault_number kind allowed = if allowed then 0 else access_fault_code kind
 
 abbrev pub number_by : Kind → Cause → (allowed : Bool) → ℕ
 number_by kind cause allowed = cause_number cause + 1024 * fault_number kind allowed
 
--- what is answered where numbers name no access: the cause is none, and the fault that of the kind, or a load's where
--- the kind isn't one
+-- the answer if the numbers name no access: no cause, and the fault of the kind, or of a load if the number names no
+-- kind
 abbrev pub no_cause : ℕ
 no_cause = NO_CAUSE
 
 abbrev pub no_access : (kind : ℕ) → ℕ
 no_access kind = no_cause + 1024 * (if kind == 0 then 1 else (if kind == 2 then 7 else 5))
 
--- the number that answers the access
+-- the access's answer number
 abbrev pub answer_number : Access → Decision → ℕ
 answer_number access decision = number_by access.kind decision.cause decision.allowed

@@ -1,4 +1,4 @@
--- A number answers one decision.
+-- An answer number encodes one decision.
 use Rattle.std.specs.Prelude.{◌≡◌, ℕ, ◌↔◌, ◌<◌, ◌/◌, ◌%◌, true}
 use Rattle.pmp_core.specs.declared.access.Access.{Access}
 use Rattle.pmp_core.specs.declared.access.Kind.{Kind}
@@ -9,27 +9,27 @@ use Rattle.pmp_core.specs.FaultCode.{access_fault_code}
 use Rattle.pmp_map.specs.Request.{kind_number}
 use Rattle.pmp_map.specs.Answer.{answer_number, cause_number, fault_number, no_access}
 
--- the entry's number is a byte, as that of every entry is
+-- the entry's number fits in a byte, as every entry's does
 abbrev pub IsByteCause : Cause → Type 0
 IsByteCause (Rule i) = i < 256
 IsByteCause (Split i) = i < 256
 IsByteCause NoMatch = Unit {0}
 
--- no decision has the number of no access
+-- no decision has a number of no access
 abbrev pub NoAccessLaw : Type 0
 NoAccessLaw = (access : Access) (decision : Decision) (kind : ℕ) → IsByteCause decision.cause
     → ¬ (answer_number access decision ≡ no_access kind)
 
--- the number of no access gives the code of the fault of its kind
+-- a number of no access gives the fault code of its kind
 abbrev pub NoAccessFaultLaw : Type 0
 NoAccessFaultLaw = (kind : Kind) → no_access (kind_number kind) / 1024 ≡ access_fault_code kind
 
--- two decisions on one access that have the same number are the same
+-- two decisions on one access with the same number are the same
 abbrev pub AnswerLaw : Type 0
 AnswerLaw = (access : Access) (one other : Decision) → IsByteCause one.cause → IsByteCause other.cause
     → answer_number access one ≡ answer_number access other → one ≡ other
 
--- what the header's inline functions read off an answer: whether the access is allowed, the code of its fault, and what
+-- what the header's inline functions read from an answer: whether the access is allowed, its fault code, and what
 -- decided
 pub record IsReadOff (access : Access) (decision : Decision) : Type 0 where
   pub allowed : answer_number access decision < 1024 ↔ decision.allowed ≡ true

@@ -8,7 +8,7 @@ use Rattle.pmp_map.specs.declared.byte_lock.ByteLock.{ByteLock}
 use Rattle.pmp_map.specs.declared.byte_lock.ByteLock.TheVariants.{Open, Bypassed, Frozen, Held}
 use Rattle.pmp_map.specs.OpenBytes.{holds}
 
--- as the entry is, where it isn't held
+-- the entry's lock, unless it is held
 abbrev pub entry_lock : Lock → ByteLock
 entry_lock entry.Open = Open
 entry_lock entry.Bypassed = Bypassed
@@ -22,6 +22,6 @@ abbrev pub lock_unless : (is_held : Bool) → ByteLock → ByteLock
 lock_unless true lock = Held
 lock_unless false lock = lock
 
--- held where the owner holds, else as it is locked; open where there is none
+-- held if the owner holds, else the owner's lock; open if there is no owner
 abbrev pub lock_by : RegisterFile → (owner : Option ℕ) → ByteLock
 lock_by file owner = lock_unless (holds file owner) (owner_lock file owner)

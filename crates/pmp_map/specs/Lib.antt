@@ -1,4 +1,4 @@
--- What a reader has to believe.
+-- What a reader must trust.
 pub mod Runs
 pub mod Answers
 pub mod RangeRights
@@ -8,7 +8,7 @@ pub mod ByteLocks
 pub mod ComparedRuns
 pub mod Request
 pub mod Answer
--- What private contracts cite: owners by ranges, painting, and a map's tables.
+-- Used by private contracts: owners by ranges, painting, and a map's tables.
 pub mod Owners
 pub mod Painting
 pub mod Search
@@ -16,7 +16,7 @@ pub mod Columns
 pub mod Rows
 pub mod Causes
 pub mod Tables
--- Laws of these definitions, which are proved, with the words that they alone need.
+-- Laws of these definitions, all proved, with the terms that only they need.
 pub mod RunsLaw
 pub mod OpenBytesLaw
 pub mod AnswerLaw

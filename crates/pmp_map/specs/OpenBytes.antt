@@ -9,7 +9,7 @@ use Rattle.pmp_core.specs.Access.{IsAccess}
 use Rattle.pmp_core.specs.Decision.{IsDecision, IsOwner}
 use Rattle.pmp_core.specs.RegisterFile.{RegisterFile, is_frozen, is_held}
 
--- the access of this one byte is allowed, or refused
+-- an access to this one byte is allowed, or refused
 abbrev pub IsAnswered : RegisterFile → (allowed : Bool) → Mode → Kind → (byte : ℕ) → Type 0
 IsAnswered file allowed mode kind byte =
     (access : Access) × (decision : Decision) × IsAccess access mode kind byte 1 × IsDecision file access decision
@@ -21,7 +21,7 @@ IsOpen file = IsAnswered file true
 abbrev pub IsClosed : RegisterFile → Mode → Kind → (byte : ℕ) → Type 0
 IsClosed file = IsAnswered file false
 
--- the owner and all entries before it are frozen; where there is no owner, all entries are
+-- the owner and all entries before it are frozen; if there is no owner, all entries are
 abbrev pub holds : RegisterFile → (owner : Option ℕ) → Bool
 holds file (Some i) = is_held file i
 holds file None = list_all (is_frozen file) (range_with_len 0 (length file.entries))

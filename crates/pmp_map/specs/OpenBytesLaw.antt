@@ -1,4 +1,4 @@
--- How owners answer for their bytes, and what a hold keeps closed (Volume II, 3.7.1.2, 3.7.1.3 and Smepmp).
+-- How owners decide their bytes, and what stays closed if held (Volume II, 3.7.1.2, 3.7.1.3 and Smepmp).
 use Rattle.std.specs.Prelude.{◌≡◌, ◌<◌, ℕ, Bool, true, List, Option, fold}
 use Rattle.std.specs.List.{list_all}
 use Rattle.pmp_core.specs.declared.access.Kind.{Kind}
@@ -13,7 +13,7 @@ use Rattle.pmp_core.specs.Rights.{allows}
 use Rattle.pmp_map.specs.Answers.{owned_rights}
 use Rattle.pmp_map.specs.OpenBytes.{IsAnswered, IsClosed, IsHeldByte, IsOpen}
 
--- a byte is open to what its owner's rule allows, or the default where it has no owner
+-- a byte is open to what its owner's rule allows, or the default if it has no owner
 abbrev pub OpenByteLaw : Type 0
 OpenByteLaw = (file : RegisterFile) (byte : ℕ) (owner : Option ℕ) (mode : Mode) (kind : Kind) → byte < ADDRESS_LIMIT
     → IsOwner file byte owner → IsAnswered file (allows (owned_rights file owner mode) kind) mode kind byte

@@ -1,4 +1,4 @@
--- Owners by the ranges of entries.
+-- Owners by the entries' ranges.
 use Rattle.std.specs.Prelude.{ℕ, Option}
 use Rattle.pmp_core.specs.Decision.{IsLeast}
 use Rattle.pmp_core.specs.Ranges.{IsInRange, range_of}

@@ -1,4 +1,4 @@
--- The answers where all bytes of an access have one owner, as a row: by mode and kind.
+-- The answers if all bytes of an access have one owner, as a row by mode and kind.
 use Rattle.std.specs.Prelude.{◌≡◌, ℕ, ◌<◌, Option, IfSome, List, [], slice_index}
 use Rattle.std.specs.List.{slice_index_or}
 use Rattle.pmp_core.specs.declared.access.Mode.{Mode}
@@ -13,11 +13,11 @@ use Rattle.pmp_map.specs.Columns.{column_of}
 abbrev pub owned_answer : RegisterFile → Option ℕ → Mode → Kind → ℕ
 owned_answer file owner mode kind = number_by kind (whole_cause owner) (allows (owned_rights file owner mode) kind)
 
--- the row has the answers of the owner
+-- the row has the owner's answers
 pub record IsRow (file : RegisterFile) (owner : Option ℕ) (row : List ℕ) : Type 0 where
   pub number : IfSome owner (λ i. i < 256)
   pub answers : (mode : Mode) (kind : Kind) → slice_index row (column_of mode kind) ≡ owned_answer file owner mode kind
 
--- row k; past the last, an empty one
+-- row k, or past the last, an empty one
 abbrev pub row_at : List (List ℕ) → ℕ → List ℕ
 row_at rows k = slice_index_or rows k []

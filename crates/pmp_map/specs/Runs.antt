@@ -1,4 +1,4 @@
--- The runs of a register file: bytes side by side that have one owner (Volume II, 3.7.1.3).
+-- The runs of a register file: adjacent bytes with one owner (Volume II, 3.7.1.3).
 use Rattle.std.specs.Prelude.{◌≡◌, ◌≢◌, ℕ, ◌+◌, ◌-◌, ◌<◌, ◌≤◌, Option, None, IfSome, List, length, All}
 use Rattle.std.specs.List.{slice_index_or}
 use Rattle.pmp_core.specs.RegisterFile.{RegisterFile}
@@ -9,11 +9,11 @@ use Rattle.pmp_map.specs.declared.run.Run.{Run}
 abbrev pub IsInRun : Run → ℕ → Type 0
 IsInRun run byte = (run.first ≤ byte) × (byte ≤ run.last)
 
--- run k; past the last, one that begins at `to`
+-- run k, or past the last, one that begins at `to`
 abbrev pub run_at : (to : ℕ) → List Run → ℕ → Run
 run_at to runs k = slice_index_or runs k (record { first = to; last = to; owner = None })
 
--- the runs of the bytes below `to`, where Owns says which owner a byte has
+-- the runs of the bytes below `to`, with owners by Owns
 pub record AreRunsTo (to : ℕ) (Owns : ℕ → Option ℕ → Type 0) (runs : List Run) : Type 0 where
   -- the first begins at byte 0
   pub begins : (run_at to runs 0).first ≡ 0
@@ -26,7 +26,7 @@ pub record AreRunsTo (to : ℕ) (Owns : ℕ → Option ℕ → Type 0) (runs : L
   -- neighbours have different owners
   pub apart : (k : ℕ) → k + 1 < length runs → (run_at to runs k).owner ≢ (run_at to runs (k + 1)).owner
 
--- run k of all bytes; past the last, one that begins at their end
+-- run k of all bytes, or past the last, one that begins at their end
 abbrev pub map_run : List Run → ℕ → Run
 map_run = run_at ADDRESS_LIMIT
 
@@ -38,7 +38,7 @@ AreRuns file = AreRunsTo ADDRESS_LIMIT (IsOwner file)
 abbrev pub HasOwnersBelow : (n : ℕ) → List Run → Type 0
 HasOwnersBelow n runs = All (λ run. IfSome run.owner (λ i. i < n)) runs
 
--- all bytes round this one that have its owner
+-- the longest run around this byte with one owner
 pub record IsRunAround (file : RegisterFile) (byte : ℕ) (run : Run) : Type 0 where
   pub here : IsInRun run byte
   pub inside : run.last < ADDRESS_LIMIT

@@ -8,7 +8,7 @@ use Rattle.pmp_map.specs.declared.run.Run.{Run}
 use Rattle.pmp_map.specs.Answers.{decision_by}
 use Rattle.pmp_map.specs.Runs.{AreRuns, IsInRun, map_run}
 
--- an access inside one run is decided by the rule of the run's owner, or as where no entry matches
+-- an access inside one run is decided by the rule of the run's owner, or as if no entry matches
 abbrev pub InsideRunLaw : Type 0
 InsideRunLaw = (file : RegisterFile) (runs : List Run) → AreRuns file runs → (k : ℕ) → k < length runs
     → (access : Access) → ((byte : ℕ) → IsByteOf access byte → IsInRun (map_run runs k) byte)

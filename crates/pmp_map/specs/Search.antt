@@ -1,4 +1,4 @@
--- Tables of where runs begin, and the place of a byte in them.
+-- Tables of the runs' starts, and a byte's place in them.
 use Rattle.std.specs.Prelude.{◌≡◌, ℕ, ◌+◌, ◌-◌, ◌<◌, ◌≤◌, List, slice_index}
 use Rattle.pmp_map.specs.declared.run.Run.{Run}
 use Rattle.pmp_map.specs.declared.search.TheConstants.{PLACES, SHORT, FEW}
@@ -8,15 +8,15 @@ use Rattle.pmp_map.specs.Runs.{map_run}
 abbrev pub AreStarts : List Run → List ℕ → Type 0
 AreStarts runs starts = (k : ℕ) → k < PLACES → slice_index starts k ≡ (map_run runs k).first
 
--- no start lies below one before it
+-- no start is below one before it
 abbrev pub IsRising : List ℕ → Type 0
 IsRising starts = (i j : ℕ) → i ≤ j → j < PLACES → slice_index starts i ≤ slice_index starts j
 
--- the byte lies from the start at `low` on, and below the one at `low + width`
+-- the byte is at or above the start at `low`, and below the one at `low + width`
 abbrev pub IsBetween : (starts : List ℕ) (byte low width : ℕ) → Type 0
 IsBetween starts byte low width = (slice_index starts low ≤ byte) × (byte < slice_index starts (low + width))
 
--- the starts of so many runs rise, and the byte lies between the first and the last of those that are searched
+-- the starts rise, and the byte is between the first and the last of those searched for this many runs
 pub record IsWithin (starts : List ℕ) (runs byte : ℕ) : Type 0 where
   pub rising : IsRising starts
   pub whole : IsBetween starts byte 0 (PLACES - 1)

@@ -1,4 +1,4 @@
--- A map's tables: where its runs begin, and what they answer.
+-- A map's tables: where its runs begin, and their answers.
 use Rattle.std.specs.Prelude.{◌≡◌, ℕ, ◌+◌, ◌<◌, ◌≤◌, List, length, slice_index}
 use Rattle.pmp_core.specs.RegisterFile.{IsLegal, RegisterFile}
 use Rattle.pmp_map.specs.declared.cuts.Cut.{Cut}
@@ -16,7 +16,7 @@ use Rattle.pmp_map.specs.Rows.{IsRow, row_at}
 abbrev pub AreRows : RegisterFile → List Run → List (List ℕ) → Type 0
 AreRows file runs rows = (k : ℕ) → k < length runs → IsRow file (map_run runs k).owner (row_at rows k)
 
--- the first places have the runs of the bytes below these cuts upwards, with the rows of their owners
+-- the first places have the runs of the bytes below these rising cuts, with their owners' rows
 pub record IsSweptTo (file : RegisterFile) (starts : List ℕ) (rows : List (List ℕ)) (cuts : List Cut) (place : ℕ)
     : Type 0 where
   pub up : AreUp (IsOwner file) cuts
@@ -40,11 +40,11 @@ pub record AreTables (file : RegisterFile) (tables : Tables) : Type 0 where
   pub starts_are : AreStarts list tables.starts
   pub rows_are : AreRows file list tables.rows
 
--- the place is that of the byte, as a search finds it
+-- the place is the byte's, as a search finds it
 abbrev pub IsFound : Tables → (byte place : ℕ) → Type 0
 IsFound tables byte place = IsWithin tables.starts tables.runs byte → IsBetween tables.starts byte place 1
 
--- the tables are those of the register file, and the list has their runs
+-- the tables are the register file's, and the list has its runs
 pub record IsMapOf (file : RegisterFile) (tables : Tables) (runs : List Run) : Type 0 where
   pub tables_are : AreTables file tables
   pub runs_are : AreRuns file runs

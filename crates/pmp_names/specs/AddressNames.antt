@@ -1,4 +1,4 @@
--- Names of ranges of addresses, and which of them a range meets.
+-- Names of ranges of addresses, and which of them a range overlaps.
 use Rattle.std.specs.Prelude.{ℕ, zero, suc, ◌+◌, ◌-◌, ◌^◌, List, [], ◌∷◌, ◌++◌, length, take, drop, Bool, true, false, not, ◌&&◌, ◌||◌}
 use Rattle.std.specs.Prelude.{◌==◌, nat_le, max, min, Option, Some, None, Result, Ok, Err, codes, bytes_eq, position, if◌then◌else◌}
 use Rattle.std.specs.Char.{is_ascii_digit}
@@ -12,15 +12,15 @@ use Rattle.pmp_names.specs.declared.address_name.TheConstants.{NAME_BYTES}
 use Rattle.pmp_names.specs.declared.address_names.NamesFault.{NamesFault}
 use Rattle.pmp_names.specs.declared.named_rows.Columns.{Columns}
 
--- the addresses of bytes from first to last have a name
+-- the bytes from first to last have this name
 pub record Named : Type 0 where
   pub first : ℕ
   pub last : ℕ
   pub name : List ℕ
 
--- ---- a file of names: the line `first,last,name`, and a line of these three fields for each name
+-- ---- a file of names: the line `first,last,name`, then a line of these three fields for each name
 
--- a printable byte, none of `"`, `+` and `,`
+-- a printable byte other than `"`, `+` and `,`
 abbrev pub is_name_byte : (byte : ℕ) → Bool
 is_name_byte byte = (nat_le 33 byte && nat_le byte 126) && not (byte == 34 || (byte == 43 || byte == 44))
 
@@ -39,14 +39,14 @@ abbrev pub parts_at : Option ℕ → (line : List ℕ) → Option (List ℕ × L
 parts_at None line = None
 parts_at (Some end) line = Some (take end line, drop (end + 1) line)
 
--- what stands before the first separator, and what stands after it
+-- the parts before and after the first separator
 abbrev pub split_once : (separator : ℕ) → (line : List ℕ) → Option (List ℕ × List ℕ)
 split_once separator line = parts_at (position (is_separator separator) line) line
 
 abbrev pub split_comma : (line : List ℕ) → Option (List ℕ × List ℕ)
 split_comma line = split_once 44 line
 
--- which field of a line is at fault, none where it hasn't three
+-- which field of a line is at fault, or none if it doesn't have three
 abbrev pub Fault : Type 0
 Fault = Option ℕ
 
@@ -71,7 +71,7 @@ name_said line = name_of_rest (split_comma line)
 
 -- ---- all names of a text
 
--- a row's number, as far as 64 bits go
+-- the next row's number, up to 2^64 - 1
 abbrev pub next_row : ℕ → ℕ
 next_row row = min (row + 1) (2 ^ 64 - 1)
 
@@ -80,7 +80,7 @@ with_name (Err field) row names = Err (record { refusal = BadRow; row = row; fie
 with_name (Ok one) row (Ok names) = Ok (one ∷ names)
 with_name (Ok one) row (Err fault) = Err fault
 
--- the names of lines, of which the first has this number
+-- the names of lines, numbered from `row`
 abbrev pub names_from : (row : ℕ) → List (List ℕ) → Result (List Named) NamesFault
 names_from row [] = Ok []
 names_from row (line ∷ more) = with_name (name_said line) row (names_from (next_row row) more)
@@ -92,11 +92,11 @@ abbrev pub names_of_lines : List (List ℕ) → Result (List Named) NamesFault
 names_of_lines [] = Err no_header
 names_of_lines (header ∷ rows) = if bytes_eq header (codes "first,last,name") then names_from 1 rows else Err no_header
 
--- the names that a text gives, or its first fault
+-- the names of a text, or its first fault
 abbrev pub names_said : (text : List ℕ) → Result (List Named) NamesFault
 names_said text = names_of_lines (lines text)
 
--- ---- which names a range meets
+-- ---- which names a range overlaps
 
 abbrev pub meets : Named → (first last : ℕ) → Bool
 meets one first last = nat_le one.first last && nat_le first one.last
@@ -104,11 +104,11 @@ meets one first last = nat_le one.first last && nat_le first one.last
 abbrev pub is_whole : Named → (first last : ℕ) → Bool
 is_whole one first last = nat_le first one.first && nat_le one.last last
 
--- where a part of what has a name begins in it
+-- where a part of a named range begins in it
 abbrev pub offset_text : (offset : ℕ) → List ℕ
 offset_text offset = codes "+0x" ++ digits 16 false offset
 
--- the name, and where only a part of it is met, where that begins
+-- the name, and if only a part is overlapped, where that begins
 abbrev pub met_name : Named → (first last : ℕ) → List ℕ
 met_name one first last = one.name
     ++ (if is_whole one first last then [] else offset_text (max first one.first - one.first))
@@ -120,13 +120,13 @@ met_from is_first (one ∷ more) first last =
     then (if is_first then [] else codes " ") ++ (met_name one first last ++ met_from false more first last)
     else met_from is_first more first last
 
--- all names that a range meets, in their order, with blanks between them
+-- all names that a range overlaps, in order, with blanks between them
 abbrev pub met_names : List Named → (first last : ℕ) → List ℕ
 met_names names first last = met_from true names first last
 
 -- ---- rows with names
 
--- the field of a row with this number, from 0
+-- the field of a row with this index, from 0
 abbrev pub field_at : (separator index : ℕ) → (row : List ℕ) → Option (List ℕ)
 field_at separator zero row = Some (before_first (is_separator separator) row)
 field_at separator (suc index) row =
@@ -140,11 +140,11 @@ abbrev pub names_between : List Named → (first last : Option ℕ) → List ℕ
 names_between names (Some first) (Some last) = met_names names first last
 names_between names first last = []
 
--- a row whose fields with these numbers are the first and the last byte address of a range
+-- a row with names; the fields with these numbers are its range's first and last byte address
 abbrev pub with_names : List Named → Columns → (row : List ℕ) → List ℕ
 with_names names columns row =
     row ++ (codes "," ++ (names_between names (address_at columns.first row) (address_at columns.last row) ++ codes "\n"))
 
--- each row of a text, with the names that its range meets behind it
+-- each row of a text, followed by the names that its range overlaps
 abbrev pub rows_with_names : List Named → Columns → (text : List ℕ) → List ℕ
 rows_with_names names columns text = flat_map (with_names names columns) (lines text)

@@ -1,4 +1,4 @@
--- The scripts of a folder, one a hart, and their order.
+-- The scripts of a folder, one for each hart, and their order.
 use Rattle.std.specs.Prelude.{◌≡◌, ◌⊎◌, ℕ, List, [], ◌∷◌, ◌++◌, length, Bool, true, false, not, ◌&&◌, ◌||◌, ◌==◌, nat_le}
 use Rattle.std.specs.Prelude.{nat_eq, codes, if◌then◌else◌}
 use Rattle.std.specs.Char.{is_ascii_alphanumeric, is_ascii_digit}
@@ -24,17 +24,17 @@ is_plain byte = is_ascii_alphanumeric byte || (byte == 45 || (byte == 95 || byte
 abbrev pub is_hart_name : (name : List ℕ) → Bool
 is_hart_name name = list_all is_plain name && nat_le (length name) HART_NAME
 
--- ---- order: as bytes, but for numbers, which are in order of value
+-- ---- order: by bytes, except that numbers are ordered by value
 
--- a number is written as a 1 for each of its digits from the first that isn't 0 on, so that a longer one comes later,
--- then 0, then these digits
+-- a number is encoded as a 1 for each digit from the first that isn't 0 on, so that a longer one comes later, then 0,
+-- then these digits
 abbrev pub number_end : (is_open : Bool) (digits : List ℕ) → List ℕ
 number_end is_open digits = if is_open then codes "0" ++ digits else []
 
 abbrev pub is_leading_zero : (byte : ℕ) (digits : List ℕ) → Bool
 is_leading_zero byte digits = byte == 48 && length digits == 0
 
--- how the rest of a name is written, behind these digits of a number where one is open
+-- how the rest of a name is encoded, after these digits of a number if one is open
 abbrev pub key_from : (is_open : Bool) (digits : List ℕ) → (rest : List ℕ) → List ℕ
 key_from is_open digits [] = number_end is_open digits
 key_from is_open digits (byte ∷ rest) =
@@ -43,17 +43,17 @@ key_from is_open digits (byte ∷ rest) =
     else codes "1" ++ key_from true (digits ++ byte ∷ []) rest)
     else number_end is_open digits ++ byte ∷ key_from false [] rest
 
--- what a name is ordered by
+-- a name's sort key
 abbrev pub order_key : (name : List ℕ) → List ℕ
 order_key name = key_from false [] name
 
--- names whose numbers have the same values are in order of their bytes
+-- names whose numbers have the same values are ordered by bytes
 abbrev pub name_cmp : (first second : List ℕ) → Ordering
 name_cmp first second = ordering_then (slice_cmp nat_cmp (order_key first) (order_key second)) (slice_cmp nat_cmp first second)
 
 -- ---- folders
 
--- the names of the scripts of a folder are those of harts: there are some, and not too many
+-- a folder's scripts have names of harts: there is at least one, and not too many
 abbrev pub has_harts : (files : List (List ℕ)) → Bool
 has_harts files = let scripts = filter is_script files in
     list_all is_hart_name scripts && (nat_le 1 (length scripts) && nat_le (length scripts) HARTS)

@@ -3,7 +3,7 @@ use Rattle.std.specs.Prelude.{ℕ, suc, List, [], ◌∷◌, Bool, false, not, �
 use Rattle.std.proofs.Common.{Bor}
 use Rattle.pmp_names.specs.NumberedTexts.{parts_of, quoted_behind}
 
--- where the first separator outside quotes stands
+-- the position of the first separator outside quotes
 abbrev pub end_from : (separator : ℕ) (in_quotes : Bool) → (text : List ℕ) → Option ℕ
 end_from separator in_quotes [] = None
 end_from separator in_quotes (byte ∷ more) =
@@ -13,7 +13,7 @@ end_from separator in_quotes (byte ∷ more) =
 abbrev pub end_at : (separator : ℕ) (text : List ℕ) → Option ℕ
 end_at separator text = end_from separator false text
 
--- the parts behind a separator, where there is one
+-- the parts after a separator, if there is one
 abbrev pub rest_of : (separator : ℕ) → Option (Bor (List ℕ)) → List (List ℕ)
 rest_of separator None = []
 rest_of separator (Some rest) = parts_of separator rest.now

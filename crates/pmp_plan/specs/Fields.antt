@@ -14,7 +14,7 @@ use Rattle.pmp_text.specs.Shorthands.{rights_said}
 use Rattle.pmp_plan.specs.declared.plan_row.Demand.{Demand}
 use Rattle.pmp_plan.specs.declared.plan_row.Words.{Words}
 
--- what stands between a line's commas, of which the name may have more
+-- the fields between a line's commas; the name may have more commas
 pub record Fields : Type 0 where
   pub first : List ℕ
   pub last : List ℕ
@@ -45,7 +45,7 @@ seen words = record {
   name = words.name.now;
 }
 
--- the first byte and the last, which has an address
+-- the first byte and the last, which is below 2^56
 unfoldable pub bytes_said : Fields → Result (ℕ × ℕ) Flaw
 bytes_said fields =
     of_part 0 (word_number fields.first) (λ first. of_part 1 (word_number fields.last) (λ last.

@@ -1,4 +1,4 @@
--- What a reader has to believe: what a plan means, what a text says as one, and what is written of one.
+-- What a reader must trust: what a plan means, how a text is read as one, and what is written for one.
 pub mod Plans
 pub mod PlanRules
 pub mod PlanFaults
@@ -8,7 +8,7 @@ pub mod PlanScripts
 pub mod PlanArrays
 pub mod PlanAnswers
 pub mod PlansOf
--- The rest, which only private contracts cite.
+-- The rest, used only by private contracts.
 pub mod KeptRows
 pub mod Walks
 pub mod StoredRules

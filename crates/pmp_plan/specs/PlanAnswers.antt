@@ -1,4 +1,4 @@
--- What is written for the text of a plan, and why nothing is.
+-- What is written for a plan's text, and why nothing is.
 use Rattle.std.specs.Prelude.{◌≡◌, ◌⊎◌, ℕ, ◌<◌, List, length, Option, Ok, Err, map, true}
 use Rattle.std.specs.Io.KnownBytes.{Appends, Keeps}
 use Rattle.std.specs.List.{AllPairs, list_all}
@@ -25,8 +25,8 @@ use Rattle.pmp_plan.specs.PlanScripts.{MeansPlan}
 use Rattle.pmp_plan.specs.PlanTexts.{plan_said}
 use Rattle.pmp_plan.specs.Plans.{MeetsPlan}
 
--- the text tells of writes that leave registers which meet the plan, on a hart that was reset: as a script, or as an array
--- of all of them
+-- the text has writes after which the registers meet the plan, on a hart after reset: as a script, or as an array of
+-- all the writes
 abbrev pub IsText : Profile → Security → Form → List PlanRow → (text : List ℕ) → Type 0
 IsText hart security Script rows text = MeansPlan hart security rows text
 IsText hart security Array rows text =
@@ -44,18 +44,18 @@ abbrev pub too_long : TraceFault
 too_long = at_row 0 (as_whole TooLong)
 
 module _ (hart : Profile) (security : Security) (form : Form) (plan : List ℕ) where
-  -- the text of a plan has rows, and this tells of the writes for them
+  -- the text of a plan has rows, and this text the writes for them
   pub record Tells (text : List ℕ) : Type 0 where
     pub rows : List PlanRow
     pub are : plan_said plan ≡ Ok (map said rows)
     pub told : IsTold hart security form rows text
 
   module _ (before after : Option (List ℕ)) where
-    -- that was written
+    -- it was written
     abbrev pub PlanSays : Type 0
     PlanSays = (text : List ℕ) × Tells text × Appends before after text
 
-    -- why nothing is written, or not all where the output fails
+    -- why nothing is written, or only a part if the output fails
     pub data PlanFails : AnswerFault → Type 0 where
       long : MAX_SCRIPT < length plan → Keeps before after → PlanFails (answer.Text too_long)
       no_plan : (fault : TraceFault) → (fault ≡ no_memory_for_rows) ⊎ (plan_said plan ≡ Err fault)

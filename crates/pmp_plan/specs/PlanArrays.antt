@@ -22,7 +22,7 @@ array_line (Write csr value) =
     ++ (codes "}, /* " ++ (register_name csr ++ codes " */\n")))))
 array_line Reset = []
 
--- an element for each write, in their order
+-- an element for each write, in order
 abbrev pub array_text : List Event → List ℕ
 array_text writes =
     codes "static const struct { unsigned csr; unsigned long long value; } pmp_writes[] = {\n"

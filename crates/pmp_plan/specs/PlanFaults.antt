@@ -26,7 +26,7 @@ refusal_of (fault.FewEntries found row takes) = refusal.FewEntries
 refusal_of fault.Stopped = refusal.Stopped
 refusal_of fault.Memory = refusal.Memory
 
--- the row of this index has the byte
+-- the row with this index has the byte
 abbrev pub HasByte : List PlanRow → (index byte : ℕ) → Type 0
 HasByte rows index byte = (row : PlanRow) × (slice_get rows index ≡ Some row) × (is_in byte row ≡ true)
 
@@ -37,49 +37,49 @@ AreApart one other = (byte : ℕ) → is_in byte one ≡ true → is_in byte oth
 abbrev pub HaveCommonByte : PlanRow → PlanRow → Type 0
 HaveCommonByte one other = (byte : ℕ) × (is_in byte one ≡ true) × (is_in byte other ≡ true)
 
--- the rows of these indexes have one
+-- the rows with these indexes have a byte in common
 pub record AreOverlapping (rows : List PlanRow) (row other : ℕ) : Type 0 where
   pub order : row < other
   pub byte : ℕ
   pub one : HasByte rows row byte
   pub second : HasByte rows other byte
 
--- the byte is one of a grain's, but not its first (3.7.1.1)
+-- the byte isn't the first of a grain (3.7.1.1)
 abbrev pub is_inside : Profile → (byte : ℕ) → Bool
 is_inside hart byte = let grain = 2 ^ (hart.grain + 2) in not (byte / grain * grain == byte)
 
--- which end of a row lies inside a grain: that of the first byte, or that behind the last
+-- which end of a row is inside a grain: field 0 is the first byte, field 1 the byte after the last
 abbrev pub IsInside : Profile → PlanRow → (field : ℕ) → Type 0
 IsInside hart row field =
     ((field ≡ 0) × (is_inside hart row.first ≡ true)) ⊎ ((field ≡ 1) × (is_inside hart (row.last + 1) ≡ true))
 
--- what is wrong with the row of this index by itself
+-- what is wrong with the row of this index alone
 abbrev pub IsFlawOf : Profile → (index : ℕ) → PlanRow → PlanFault → Type 0
 IsFlawOf hart index row (fault.TooFine number field) = (number ≡ index) × IsInside hart row field
 IsFlawOf hart index row (fault.PastEnd number) = (number ≡ index) × (word_addresses hart ≤ row.last / 4)
 IsFlawOf hart index row _ = ⊥
 
--- the row begins and ends where grains of the hart do, below the end of its addresses
+-- the row begins and ends on the hart's grain boundaries, below the end of its addresses
 pub record IsFit (hart : Profile) (row : PlanRow) : Type 0 where
   pub first : is_inside hart row.first ≡ false
   pub last : is_inside hart (row.last + 1) ≡ false
   pub below : row.last / 4 < word_addresses hart
 
--- nothing is wrong with the plan by itself: no two rows have a byte in common, each is fit for the hart, and an entry can
--- have its rights; and the hart has a bit of mseccfg where one is asked for
+-- the plan alone has no fault: no two rows have a byte in common, each fits the hart, an entry can have its rights, and
+-- the hart has mseccfg if a bit of it is asked for
 pub record IsSound (hart : Profile) (security : Security) (rows : List PlanRow) : Type 0 where
   pub apart : AllPairs AreApart rows
   pub fit : All (IsFit hart) rows
   pub kept : hart.has_smepmp ≡ false → security ≡ no_security
   pub ruled : All (λ row. HasRule security row.demand) rows
 
--- writes to the hart, which was reset, leave registers that meet the plan
+-- some writes to the hart after reset lead to registers that meet the plan
 abbrev pub CanMeet : Profile → Security → List PlanRow → Type 0
 CanMeet hart security rows = (writes : List Event) × MeetsPlan hart security rows (replay hart writes)
 
--- a fault of the rows is there; no rule gives what a row asks; the hart has no mseccfg, of which a bit is asked for; a
--- sound plan takes more entries than the hart has, and as many do, where a hart can have so many; or the entries for a
--- sound plan with rows weren't found. That memory ran out says nothing of the plan
+-- the rows have this fault; no rule gives what a row asks; the hart has no mseccfg, though a bit of it is asked for; a
+-- sound plan takes `found` entries, more than the hart has, and that many suffice if a hart can have them; or no
+-- entries were found for a sound plan with rows. Running out of memory says nothing about the plan
 abbrev pub Refuses : Profile → Security → List PlanRow → PlanFault → Type 0
 Refuses hart security rows (fault.Overlap row other) = AreOverlapping rows row other
 Refuses hart security rows (fault.TooFine number field) =

@@ -1,4 +1,4 @@
--- A script that leaves the registers of a plan.
+-- A script whose registers meet a plan.
 use Rattle.std.specs.Prelude.{◌≡◌, ℕ, List, Ok}
 use Rattle.pmp_core.specs.declared.hart.Profile.{Profile}
 use Rattle.pmp_core.specs.RegisterFile.{reset_file}
@@ -9,8 +9,8 @@ use Rattle.pmp_plan.specs.declared.plan_row.PlanRow.{PlanRow}
 use Rattle.pmp_plan.specs.declared.security.Security.{Security}
 use Rattle.pmp_plan.specs.Plans.{MeetsPlan}
 
--- the text means a script that begins with a reset of the hart, and the register file that all its publications leave
--- meets the plan
+-- the text is a script that begins with a reset of the hart, and the register file after all its publications meets the
+-- plan
 pub record MeansPlan (hart : Profile) (security : Security) (rows : List PlanRow) (text : List ℕ) : Type 0 where
   pub contents : ScriptContents
   pub means : script_meaning text ≡ Ok contents

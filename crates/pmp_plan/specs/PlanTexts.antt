@@ -1,4 +1,4 @@
--- What a text says as a plan: its rows, or its first fault.
+-- How a text is read as a plan: its rows, or its first fault.
 use Rattle.std.specs.Prelude.{ℕ, List, [], ◌∷◌, Some, None, Result, Ok, Err, codes, bytes_eq, if◌then◌else◌}
 use Rattle.pmp_names.specs.AddressNames.{is_name, next_row}
 use Rattle.pmp_text.specs.declared.flaw.Flaw.{Flaw}
@@ -9,7 +9,7 @@ use Rattle.pmp_text.specs.Lines.{lines}
 use Rattle.pmp_plan.specs.declared.plan_row.Demand.{Demand}
 use Rattle.pmp_plan.specs.Fields.{Fields, bytes_said, demand_said, fields_of}
 
--- what a row says
+-- what a row has
 pub record Said : Type 0 where
   pub first : ℕ
   pub last : ℕ
@@ -22,7 +22,7 @@ row_of_fields fields =
     if is_name fields.name then Ok (record { first = first; last = last; demand = demand; name = fields.name })
     else Err (part 5 BadRow)))
 
--- what a line says as a row, or which of its fields says nothing
+-- a line read as a row, or which of its fields is wrong
 abbrev pub row_said : List ℕ → Result Said Flaw
 row_said line = elim (fields_of line) [ Some fields ↦ row_of_fields fields | None ↦ Err (as_whole BadRow) ]
 
@@ -33,7 +33,7 @@ with_row (Err flaw) row rows = Err (at_row row flaw)
 with_row (Ok one) row (Ok rows) = Ok (one ∷ rows)
 with_row (Ok one) row (Err fault) = Err fault
 
--- the rows of lines, of which the first has this number
+-- the rows of lines, numbered from `row`
 abbrev pub rows_from : (row : ℕ) → List (List ℕ) → Result (List Said) TraceFault
 rows_from row [] = Ok []
 rows_from row (line ∷ more) = with_row (row_said line) row (rows_from (next_row row) more)
@@ -46,6 +46,6 @@ plan_of_lines [] = Err no_header
 plan_of_lines (header ∷ rows) =
     if bytes_eq header (codes "first,last,m,su,locked,name") then rows_from 1 rows else Err no_header
 
--- the rows that a text says, or its first fault
+-- the rows of a text, or its first fault
 abbrev pub plan_said : (text : List ℕ) → Result (List Said) TraceFault
 plan_said text = plan_of_lines (lines text)

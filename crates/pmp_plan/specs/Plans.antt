@@ -15,7 +15,7 @@ use Rattle.pmp_plan.specs.declared.plan_row.Demand.{Demand}
 use Rattle.pmp_plan.specs.declared.plan_row.PlanRow.{PlanRow}
 use Rattle.pmp_plan.specs.declared.security.Security.{Security}
 
--- the file gives the byte exactly these rights, and holds it where that is asked
+-- the file gives the byte exactly these rights, and holds it if asked
 pub record Gives (file : RegisterFile) (demand : Demand) (byte : ℕ) : Type 0 where
   pub rights : HasRights file byte demand.rights
   pub held : demand.is_locked ≡ true → IsHeldByte file byte
@@ -31,7 +31,7 @@ MeetsRow file row = (byte : ℕ) → is_in byte row ≡ true → Gives file row.
 abbrev pub is_named : List PlanRow → (byte : ℕ) → Bool
 is_named rows byte = list_any (is_in byte) rows
 
--- what no entry gives, on a hart that has entries: for machine mode by MML and MMWP, and nothing for the other two
+-- the rights if no entry matches, on a hart with entries: for M-mode by MML and MMWP, and none for S-mode and U-mode
 abbrev pub rest_rights : Security → ModeRights
 rest_rights security = record {
   machine = perms_of (machine_default security.mml security.mmwp);
@@ -47,8 +47,8 @@ abbrev pub security_value : Security → ℕ
 security_value security =
     mseccfg_value (record { mml = security.mml; mmwp = security.mmwp; rlb = security.rlb })
 
--- the hart, and the value of mseccfg, are those asked for; each row is met; and a byte that no row has is left as no
--- entry leaves it
+-- the hart and the value of mseccfg are those asked for; each row is met; and a byte of no row has the rights of a byte
+-- that no entry matches
 pub record MeetsPlan (hart : Profile) (security : Security) (rows : List PlanRow) (file : RegisterFile) : Type 0 where
   pub hart_is : file.profile ≡ hart
   pub secured : register_value file Mseccfg ≡ security_value security

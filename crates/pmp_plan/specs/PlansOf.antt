@@ -1,4 +1,4 @@
--- The plan that a script's registers amount to.
+-- The plan that a script's registers meet.
 use Rattle.std.specs.Prelude.{◌≡◌, ℕ, List, Option, Ok, Err, map}
 use Rattle.std.specs.Io.KnownBytes.{Appends, Keeps}
 use Rattle.std.specs.List.{AllPairs}
@@ -19,7 +19,7 @@ use Rattle.pmp_plan.specs.PlanFaults.{AreApart}
 use Rattle.pmp_plan.specs.PlanTexts.{plan_said}
 use Rattle.pmp_plan.specs.Plans.{MeetsPlan}
 
--- the text says a plan, no two of whose rows have a byte in common, and which the register file meets on its hart
+-- the text is a plan whose rows have no byte in common, and which the register file meets on its hart
 pub record IsPlanOf (file : RegisterFile) (text : List ℕ) : Type 0 where
   pub rows : List PlanRow
   pub are : plan_said text ≡ Ok (map said rows)
@@ -27,7 +27,7 @@ pub record IsPlanOf (file : RegisterFile) (text : List ℕ) : Type 0 where
   pub security : Security
   pub met : MeetsPlan file.profile security rows file
 
--- the text is a plan of the registers that all publications of a script leave
+-- the text is a plan of the registers after all publications of a script
 pub record IsPlanOfScript (script text : List ℕ) : Type 0 where
   pub contents : ScriptContents
   pub means : script_meaning script ≡ Ok contents
@@ -43,7 +43,7 @@ module _ (script : List ℕ) (before after : Option (List ℕ)) where
   abbrev pub PlanOfSays : Type 0
   PlanOfSays = (text : List ℕ) × IsPlanOfScript script text × Appends before after text
 
-  -- why nothing is written, or not all where the output fails
+  -- why nothing is written, or only a part if the output fails
   pub data PlanOfFails : AnswerFault → Type 0 where
     no_plan : (fault : AnswerFault) → HasNoPlan script fault → Keeps before after → PlanOfFails fault
     no_output : (text : List ℕ) → IsPlanOfScript script text → AppendsBeginning before after text

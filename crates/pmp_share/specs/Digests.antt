@@ -1,4 +1,4 @@
--- What is kept of what is known.
+-- What is stored of what is known.
 use Rattle.std.specs.Prelude.{◌≡◌, ℕ, length}
 use Rattle.logbook.specs.Pages.{Book}
 use Rattle.pmp_core.specs.RegisterFile.{RegisterFile}
@@ -6,7 +6,7 @@ use Rattle.pmp_share.specs.declared.knowledge.Known.{Known}
 use Rattle.pmp_share.specs.Batches.{Batches, event_count}
 use Rattle.pmp_share.specs.Known.{file_of}
 
--- the file that the batches give, how many events they hold, how many they are, and the history up to them
+-- the file after the batches, the numbers of events and of batches, and the history up to them
 pub record IsDigest (known : Known) (file : RegisterFile) (events count : ℕ) (book : Book) (log : Batches) : Type 0 where
   pub replayed : file ≡ file_of known
   pub events_is : events ≡ event_count known.list

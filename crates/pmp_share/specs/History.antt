@@ -1,15 +1,15 @@
--- The history of a unit as a book keeps it: its entries are the batches.
+-- A unit's history as a book keeps it: its entries are the batches.
 use Rattle.std.specs.Prelude.{◌≡◌, ℕ, ◌==◌, true, List, [], ◌∷◌, ◌++◌, length, MatchBool}
 use Rattle.logbook.specs.Pages.{Cell, Step, View, Book, Named}
 use Rattle.pmp_core.specs.declared.event.Event.{Event}
 use Rattle.pmp_share.specs.Batches.{Batches}
 
--- which book, and the batches in it
+-- the book, and the batches in it
 pub record Noted : Type 0 where
   pub book : Book
   pub list : Batches
 
--- the first word is the number of batches. A book has two words, of which this one leaves the second at 0
+-- the first word is the number of batches. A book has two words; this one leaves the second at 0
 abbrev pub IsCounted : List Cell → Batches → Type 0
 IsCounted cells log = cells ≡ (length log, true) ∷ (0, true) ∷ []
 
@@ -17,7 +17,7 @@ IsCounted cells log = cells ≡ (length log, true) ∷ (0, true) ∷ []
 abbrev pub head_of : Book → Named
 head_of book = record { tracked = true; key = 0; book = book }
 
--- where the number is as expected, the batch was added to all that had been seen
+-- if the number is as expected, the batch was appended to all that had been seen
 abbrev pub Added : Step (List Event) → View (List Event) ℕ → ℕ → View (List Event) ℕ → Type 0
 Added step before found after =
     MatchBool (found == step.old) (after.0 ≡ before.0 ++ step.ask ∷ []) (Unit {0})

@@ -1,24 +1,24 @@
--- A journal: events, and for each batch how many events stood once it was added.
+-- A journal: events, and for each batch the number of events once it was added.
 use Rattle.std.specs.Prelude.{◌≡◌, ℕ, ◌+◌, ◌-◌, List, [], ◌∷◌, length, take, drop}
 use Rattle.pmp_core.specs.declared.event.Event.{Event}
 use Rattle.pmp_core.specs.Histories.{joined}
 use Rattle.pmp_share.specs.Batches.{Batches}
 
--- where the batches end, behind this many events
+-- where the batches end, after this many events
 unfoldable pub ends_from : ℕ → Batches → List ℕ
 ends_from before [] = []
 ends_from before (batch ∷ batches) = (before + length batch) ∷ ends_from (before + length batch) batches
 
--- how many events stand once each batch is added
+-- the number of events after each batch
 abbrev pub ends_of : Batches → List ℕ
 ends_of batches = ends_from 0 batches
 
--- the events behind the first `before`, cut at these ends
+-- the events after the first `before`, cut at these ends
 unfoldable pub cut_from : ℕ → List ℕ → List Event → Batches
 cut_from before [] events = []
 cut_from before (end ∷ ends) events = take (end - before) events ∷ cut_from end ends (drop (end - before) events)
 
--- the batches that a journal stands for
+-- the batches that a journal encodes
 abbrev pub batches_of : List ℕ → List Event → Batches
 batches_of ends events = cut_from 0 ends events
 

@@ -13,11 +13,11 @@ use Rattle.pmp_share.specs.Tokens.{UnitId}
 abbrev pub known : UnitId → Batches → Known
 known unit list = record { list = list; unit = unit }
 
--- the register file that it gives
+-- the register file after it
 abbrev pub file_of : Known → RegisterFile
 file_of it = file_from it.unit.base it.list
 
--- the manual's decision there, as it is computed from the ranges of entries
+-- the manual's decision there, as computed from the entries' ranges
 abbrev pub IsDecidedIn : Known → Access → Decision → Type 0
 IsDecidedIn it access decision =
     Decides it.unit.base it.list access decision × (decision ≡ decision_of (file_of it) access)

@@ -1,4 +1,4 @@
--- What a reader has to believe: these, beside the definitions of pmp_core.
+-- What a reader must trust: these, and the definitions of pmp_core.
 pub mod Batches
 pub mod Object
 pub mod Tokens
@@ -8,9 +8,9 @@ pub mod Openings
 pub mod Room
 pub mod Journals
 pub mod NoticeRings
--- Laws of these definitions, which are proved.
+-- Laws of these definitions, all proved.
 pub mod Laws
--- How the crate keeps them.
+-- How the crate implements them.
 pub mod History
 pub mod Versions
 pub mod Rule

@@ -12,7 +12,7 @@ is_as_late one other =
 abbrev pub later_of : Batches → Batches → Batches
 later_of one other = if is_as_late one other then other else one
 
--- a look: batches that begin with all that was known, of the same unit, and how many events they hold
+-- a look: batches of the same unit with all that was known as a prefix, and the number of their events
 pub record IsLook (old new : Known) (events : ℕ) : Type 0 where
   pub unit : new.unit ≡ old.unit
   pub begins : StartsWith new.list old.list

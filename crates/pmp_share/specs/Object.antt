@@ -1,4 +1,4 @@
--- The sequential object, whose state is the list of published batches, empty at first.
+-- The sequential object: its state is the list of published batches, empty at first.
 -- Each step of the running rule (docs/ARCHITECTURE.md) is one event of it or none.
 use Rattle.std.specs.Prelude.{◌≡◌, [], ◌++◌}
 use Rattle.pmp_core.specs.declared.access.Access.{Access}
@@ -7,7 +7,7 @@ use Rattle.pmp_core.specs.Decision.{IsDecision}
 use Rattle.pmp_core.specs.RegisterFile.{RegisterFile}
 use Rattle.pmp_share.specs.Batches.{Batches, file_from}
 
--- at first
+-- initially
 abbrev pub no_batches : Batches
 no_batches = []
 
@@ -15,6 +15,6 @@ no_batches = []
 abbrev pub Publishes : Batches → Batches → Batches → Type 0
 Publishes state batches after = after ≡ state ++ batches
 
--- a decision changes nothing, and is the manual's in the file that the base and the batches give
+-- a decision changes nothing, and is the manual's in the file after the base and the batches
 abbrev pub Decides : (base : RegisterFile) → Batches → Access → Decision → Type 0
 Decides base state access = IsDecision (file_from base state) access

@@ -1,4 +1,4 @@
--- A unit that has just begun.
+-- A unit that has just started.
 use Rattle.std.specs.Prelude.{◌≡◌, ℕ, List, [], replicate}
 use Rattle.pmp_core.specs.RegisterFile.{RegisterFile}
 use Rattle.pmp_share.specs.declared.knowledge.Known.{Known}
@@ -6,7 +6,7 @@ use Rattle.pmp_share.specs.Object.{no_batches}
 use Rattle.pmp_share.specs.Known.{known}
 use Rattle.pmp_share.specs.Tokens.{PublisherToken}
 
--- it begins with this register file, nothing is published or pending, and it has so many checkers
+-- it starts from this register file, nothing is published or pending, and it has k checkers
 pub record Started (file : RegisterFile) (k : ℕ) (publisher : PublisherToken) (checkers : List Known) : Type 0 where
   pub base : publisher.unit.base ≡ file
   pub published : publisher.published ≡ no_batches

@@ -1,9 +1,9 @@
--- What a publisher is made of.
+-- A publisher's state.
 use Rattle.std.specs.Prelude.{◌≡◌, ℕ, ◌+◌, ◌<◌, ◌≤◌, true, ◌++◌, length, take}
 use Rattle.pmp_share.specs.Batches.{Batches}
 use Rattle.pmp_share.specs.WriterStates.{WriterProgress}
 
--- the first pending batches are handed over, none of which can be withdrawn
+-- the first pending batches are handed over, and can't be withdrawn
 pub record IsPublisher (state : WriterProgress) (pending : Batches) (handed tried : ℕ) : Type 0 where
   pub within : handed ≤ tried
   pub tried_within : tried ≤ length pending

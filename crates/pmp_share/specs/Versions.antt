@@ -4,7 +4,7 @@ use Rattle.pmp_share.specs.declared.logged_batch.LoggedBatch.{LoggedBatch}
 use Rattle.pmp_share.specs.declared.version_state.VersionState.{VersionState}
 use Rattle.pmp_share.specs.Tokens.{unit_with}
 
--- its batch comes behind the others, and its history in the place of the old one. The base stays
+-- its batch is appended, and its history replaces the old one. The base stays
 abbrev pub applied : VersionState → LoggedBatch → VersionState
 applied told logged = record {
   batches = told.batches ++ logged.events.items ∷ [];

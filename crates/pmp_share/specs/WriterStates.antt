@@ -1,4 +1,4 @@
--- What the publisher's side is made of.
+-- The state of the publisher's side.
 use Rattle.std.specs.Prelude.{◌≡◌, Bool, false, List, fold, Option, Some}
 use Rattle.pmp_share.specs.declared.logged_batch.LoggedBatch.{LoggedBatch}
 use Rattle.pmp_share.specs.declared.version_state.VersionState.{VersionState}
@@ -10,8 +10,8 @@ use Rattle.pmp_share.specs.Rule.{unit_of}
 use Rattle.pmp_share.specs.Tokens.{UnitId}
 use Rattle.pmp_share.specs.Versions.{applied}
 
--- the batches that are shown; these and those handed over for the next publication; the history; and whether the
--- history has one batch more
+-- the published batches; these and those handed over for the next publication; the history; and whether the history
+-- has one more batch
 pub record WriterProgress : Type 0 where
   pub unit : UnitId
   pub shown : Batches
@@ -26,7 +26,7 @@ state_of version = record { batches = version.journal; log = version.history.log
 abbrev pub after : Version → List LoggedBatch → VersionState
 after version entries = fold applied (state_of version) entries
 
--- one unit's, with the history of all that is handed over
+-- one unit's state, whose history has all that is handed over
 pub record IsWriterState (recorder : Known) (ahead : Bool) (view : Option Known) (shown : Version)
     (next : VersionState) : Type 0 where
   pub seated : view ≡ Some (known recorder.unit shown.journal)

@@ -1,4 +1,4 @@
--- The text of where two register files differ in what they let the modes do with bytes, or in how they lock them.
+-- The text of how two register files differ in the modes' rights to bytes, or in how bytes are locked.
 use Rattle.std.specs.Prelude.{ℕ, ◌/◌, ◌%◌, ◌==◌, Bool, true, false, ◌&&◌, ◌||◌, not, List, [], ◌∷◌, ◌++◌}
 use Rattle.std.specs.Prelude.{Option, Some, None, codes, if◌then◌else◌}
 use Rattle.std.specs.List.{count_by, flat_map}
@@ -26,7 +26,7 @@ use Rattle.pmp_text.specs.RunLines.{mark}
 abbrev pub has_right : Perms → Kind → Bool
 has_right perms kind = perms.0 / (right_of kind).0 % 2 == 1
 
--- the first set has a right that the second hasn't
+-- the first set has a right that the second lacks
 abbrev pub has_beyond : Perms → Perms → Bool
 has_beyond one other =
     has_right one Load && not (has_right other Load)
@@ -37,7 +37,7 @@ has_beyond one other =
 abbrev pub goes_beyond : ModeRights → ModeRights → Bool
 goes_beyond one other = has_beyond one.machine other.machine || has_beyond one.others other.others
 
--- `more` where nothing is lost, `less` where nothing is gained
+-- `more` if nothing is lost, `less` if nothing is gained
 abbrev pub change_by : (is_lost is_gained : Bool) → Option Change
 change_by false false = None
 change_by false true = Some More
@@ -54,7 +54,7 @@ is_asked (Some only.More) Less = false
 is_asked (Some only.Less) More = false
 is_asked _ _ = true
 
--- how it differs, where that is asked for
+-- how it differs, if that is asked for
 abbrev pub asked_of : Option Only → Option Change → Option Change
 asked_of only None = None
 asked_of only (Some change) = if is_asked only change then Some change else None
@@ -67,22 +67,22 @@ change_text More = codes "more"
 change_text Less = codes "less"
 change_text Both = codes "both"
 
--- `r`, `w` and `x`, each where the set has it
+-- `r`, `w` and `x`, each if the set has it
 abbrev pub set_text : Perms → List ℕ
 set_text perms =
     mark 114 (has_right perms Load) ∷ mark 119 (has_right perms Store) ∷ mark 120 (has_right perms Fetch) ∷ []
 
--- the first and the last byte in fourteen digits, and the fields behind them
+-- the first and the last byte in fourteen digits, and the fields after them
 abbrev pub run_row : ComparedRun → List (List ℕ) → List ℕ
 run_row run fields = hex_text ADDRESS_DIGITS run.first ++ fields_after (hex_text ADDRESS_DIGITS run.last ∷ fields)
 
--- the rights of machine mode and of the other modes by the old file, the same by the new, and how it differs
+-- the rights of M-mode and of S-mode and U-mode in the old file, the same in the new, and how they differ
 unfoldable pub rights_row : ComparedRun → (old new : ModeRights) → Change → List ℕ
 rights_row run old new change =
     run_row run (set_text old.machine ∷ set_text old.others ∷ set_text new.machine ∷ set_text new.others
     ∷ change_text change ∷ [])
 
--- how bytes are locked: as their entry's row says it, or `held`
+-- how bytes are locked: as in their entry's row, or `held`
 abbrev pub byte_lock_text : ByteLock → List ℕ
 byte_lock_text Open = codes "-"
 byte_lock_text Bypassed = codes "bypassed"
@@ -96,7 +96,7 @@ is_same_lock Frozen Frozen = true
 is_same_lock Held Held = true
 is_same_lock _ _ = false
 
--- how they are locked by the old file, and by the new
+-- how they are locked in the old file, and in the new
 unfoldable pub locks_row : ComparedRun → (old new : ByteLock) → List ℕ
 locks_row run old new = run_row run (byte_lock_text old ∷ byte_lock_text new ∷ [])
 
@@ -116,17 +116,17 @@ abbrev pub has_by : Option Only → Compared → Bool
 has_by only (Rights old new) = is_some (asked_change only old new)
 has_by only (Locks old new) = not (is_same_lock old new)
 
--- the row of a run, where it has one: of rights, if they differ as is asked, or of locks that differ
+-- a run's row, if it has one: of rights that differ as asked for, or of locks that differ
 unfoldable pub asked_row : Option Only → ComparedRun → List ℕ
 asked_row only run = row_by only run run.both
 
 unfoldable pub has_row : Option Only → ComparedRun → Bool
 has_row only run = has_by only run.both
 
--- a row for each run where the files differ as is asked
+-- a row for each run where the files differ as asked for
 abbrev pub change_rows : Option Only → List ComparedRun → List ℕ
 change_rows only runs = flat_map (asked_row only) runs
 
--- how many rows these are
+-- the number of these rows
 abbrev pub change_count : Option Only → List ComparedRun → ℕ
 change_count only runs = count_by (has_row only) runs

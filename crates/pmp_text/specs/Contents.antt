@@ -6,13 +6,13 @@ use Rattle.pmp_core.specs.RegisterFile.{RegisterFile}
 use Rattle.pmp_text.specs.declared.expectation.Expectation.{Expectation}
 use Rattle.pmp_text.specs.declared.mark.Mark.{Mark}
 
--- its publications, each a list of events, and for each of these the number of its line
+-- its publications, each a list of events, and the line numbers of these
 pub record Publications : Type 0 where
   pub batches : List (List Event)
   pub lines : List (List ℕ)
 
--- the size of the unit that it is for, the register file before the first event, its publications, the lines of their
--- events, what it expects of registers, and the moments that it names, where its version names any
+-- the size of its unit, the register file before the first event, its publications, the lines of their events, what it
+-- expects of registers, and the moments that it names, if its version has any
 pub record ScriptContents : Type 0 where
   pub size : Size
   pub start : RegisterFile

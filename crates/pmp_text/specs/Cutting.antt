@@ -1,4 +1,4 @@
--- Cutting what a reader gives into pieces.
+-- Cutting a reader's bytes into pieces.
 use Rattle.std.specs.Prelude.{◌≡◌, ℕ, ◌-◌, ◌<◌, ◌≤◌, List, [], ◌∷◌, ◌++◌, length, Bool, true, false, Option, Result}
 use Rattle.std.specs.List.{list_any}
 use Rattle.std.specs.Prelude.{Ok, Err, ⊤}
@@ -11,7 +11,7 @@ use Rattle.pmp_text.specs.LongTraces.{HasLongLine}
 use Rattle.pmp_text.specs.Lines.{is_line_feed}
 use Rattle.pmp_text.specs.Tables.{is_line_end}
 
--- bytes were taken, behind which `limit` are held, or none is left
+-- bytes were taken until `limit` are buffered, or none is left
 pub record IsFilled (limit : ℕ) (held : List ℕ) (old new : Option (List ℕ)) (filled : List ℕ) (at_end : Bool)
     : Type 0 where
   pub taken : List ℕ
@@ -21,7 +21,7 @@ pub record IsFilled (limit : ℕ) (held : List ℕ) (old new : Option (List ℕ)
   pub ended : at_end ≡ true → IsAtEnd new
   pub full : at_end ≡ false → length filled ≡ limit
 
--- a piece of at most `limit` bytes ends at a line's end, which what is held behind it begins with
+-- a piece of at most `limit` bytes ends with a line end, which also begins what is buffered after it
 pub record IsFront (limit : ℕ) (held : List ℕ) (old new : Option (List ℕ)) (left piece : List ℕ) : Type 0 where
   pub taken : List ℕ
   pub consumed : Consumes old new taken
@@ -36,7 +36,7 @@ pub record IsFront (limit : ℕ) (held : List ℕ) (old new : Option (List ℕ))
   pub within : length left ≤ limit
   pub short : length piece ≤ limit
 
--- a piece of at most `limit` bytes is all that was held and taken, and no byte is left
+-- a piece of at most `limit` bytes is all that was buffered and taken, and no byte is left
 pub record IsLast (limit : ℕ) (held : List ℕ) (old new : Option (List ℕ)) (piece : List ℕ) : Type 0 where
   pub taken : List ℕ
   pub consumed : Consumes old new taken
@@ -44,7 +44,7 @@ pub record IsLast (limit : ℕ) (held : List ℕ) (old new : Option (List ℕ)) 
   pub ended : IsAtEnd new
   pub short : length piece ≤ limit
 
--- as many bytes as are held, but one, have no line end
+-- at least `limit` - 1 bytes in a row have no line end
 pub record IsUncut (limit : ℕ) (held : List ℕ) (old new : Option (List ℕ)) : Type 0 where
   pub taken : List ℕ
   pub consumed : Consumes old new taken
@@ -61,7 +61,7 @@ IsCut limit held old new left (Err _) = ⊥
 
 -- ---- lines by LF
 
--- whole lines of at most `limit` bytes were cut off, in front of what is held now
+-- whole lines of at most `limit` bytes were cut off, before what is buffered now
 pub record AreLines (limit : ℕ) (held : List ℕ) (old new : Option (List ℕ)) (left piece : List ℕ) : Type 0 where
   pub taken : List ℕ
   pub consumed : Consumes old new taken
@@ -71,7 +71,7 @@ pub record AreLines (limit : ℕ) (held : List ℕ) (old new : Option (List ℕ)
   pub within : length left ≤ limit
   pub short : length piece ≤ limit
 
--- so many bytes are held, and have no LF
+-- at least `limit` bytes are buffered, and have no LF
 pub record IsLongLine (limit : ℕ) (held : List ℕ) (old new : Option (List ℕ)) : Type 0 where
   pub taken : List ℕ
   pub consumed : Consumes old new taken

@@ -14,11 +14,11 @@ use Rattle.pmp_text.specs.Effects.{value_text}
 use Rattle.pmp_text.specs.Heads.{kept_value}
 use Rattle.pmp_text.specs.Names.{register_name}
 
--- the configuration register in this place: on RV64 the odd numbers are left out
+-- the configuration register at this place: on RV64 the odd numbers are left out
 abbrev pub cfg_at : Profile → (place : ℕ) → Csr
 cfg_at hart place = Cfg (if hart.is_rv32 then place else 2 * place)
 
--- the configuration registers that hold the bytes of n entries, as many each as the first
+-- the configuration registers with the bytes of n entries, as many in each as in the first
 abbrev pub cfg_registers : Profile → (n : ℕ) → List Csr
 cfg_registers hart n = map (cfg_at hart) (range_with_len 0 (div_ceil n (bytes_in hart 0)))
 
@@ -26,11 +26,11 @@ cfg_registers hart n = map (cfg_at hart) (range_with_len 0 (div_ceil n (bytes_in
 abbrev pub addr_registers : (n : ℕ) → List Csr
 addr_registers n = map Addr (range_with_len 0 n)
 
--- the registers of a unit of n entries, but for mseccfgh, which is zero
+-- the registers of a unit of n entries, except mseccfgh, which is zero
 abbrev pub registers_of : Profile → (n : ℕ) → List Csr
 registers_of hart n = cfg_registers hart n ++ (addr_registers n ++ Mseccfg ∷ [])
 
--- what a dump shows of a register is what it reads, and what a script sets it to is all that it keeps
+-- a dump shows what a register reads, and a script sets it to all that it stores
 abbrev pub form_value : Form → RegisterFile → Csr → ℕ
 form_value Dump file csr = register_value file csr
 form_value Script file csr = kept_value file csr
@@ -39,7 +39,7 @@ form_value Script file csr = kept_value file csr
 abbrev pub register_line : Csr → ℕ → List ℕ
 register_line csr value = register_name csr ++ (codes " " ++ (value_text value ++ 10 ∷ []))
 
--- a script has `set` before it, and nothing for a register that keeps zero
+-- a script has `set` before it, and nothing for a register that stores zero
 abbrev pub form_line : Form → Csr → ℕ → List ℕ
 form_line Dump csr value = register_line csr value
 form_line Script csr value = if value == 0 then [] else codes "set " ++ register_line csr value

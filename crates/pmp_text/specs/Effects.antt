@@ -17,7 +17,7 @@ use Rattle.pmp_text.specs.Hexadecimal.{hex_text}
 use Rattle.pmp_text.specs.Names.{register_name}
 use Rattle.pmp_text.specs.Reports.{fields_after}
 
--- what the register reads after the write, beside what was written and what it read before
+-- what the write did, by the value written and what the register reads before and after
 abbrev pub effect_text : (value before after : ℕ) → List ℕ
 effect_text value before after =
     if after == value then codes "stored" else (if after == before then codes "ignored" else codes "altered")
@@ -37,11 +37,11 @@ reason_text Grain = codes "grain"
 abbrev pub value_text : ℕ → List ℕ
 value_text value = codes "0x" ++ hex_text VALUE_DIGITS value
 
--- the reasons why the register doesn't read the value, parted by one space
+-- the reasons why the register doesn't read the value, separated by one space
 abbrev pub reasons_text : RegisterFile → Csr → (value : ℕ) → List ℕ
 reasons_text file csr value = join_with_byte 32 (map reason_text (write_reasons file csr value))
 
--- the entries that turn the value away, ascending, parted by one space
+-- the entries with reasons, ascending, separated by one space
 abbrev pub entries_text : RegisterFile → Csr → (value : ℕ) → List ℕ
 entries_text file csr value = join_with_byte 32 (map decimal (entries_with_reasons file csr value))
 
@@ -59,6 +59,6 @@ abbrev pub place_text : EventPlace → List ℕ
 place_text place =
     decimal place.number ++ (codes "," ++ (decimal place.publication ++ (codes "," ++ decimal place.line)))
 
--- the row of an event of this place, which comes to this file
+-- the row of an event at this place, with this file before it
 unfoldable pub effect_row : EventPlace → RegisterFile → Event → List ℕ
 effect_row place file event = place_text place ++ fields_after (event_fields file event)

@@ -19,7 +19,7 @@ use Rattle.pmp_text.specs.Hexadecimal.{hex_text}
 use Rattle.pmp_text.specs.Reports.{fields_after, optional_text}
 use Rattle.pmp_text.specs.RunLines.{rights_text}
 
--- how the address register is read
+-- the field A
 abbrev pub matching_text : AddressMatching → List ℕ
 matching_text Off = codes "off"
 matching_text Tor = codes "tor"
@@ -36,11 +36,11 @@ lock_text Open = codes "-"
 lock_text Bypassed = codes "bypassed"
 lock_text Frozen = codes "frozen"
 
--- whether the address register takes no write
+-- whether writes to the address register are ignored
 abbrev pub address_text : Bool → List ℕ
 address_text is_frozen = if is_frozen then codes "frozen" else codes "-"
 
--- of an entry of which nothing is known
+-- for an entry of which nothing is known
 abbrev pub no_since : Since
 no_since = record { frozen = None; held = None }
 
@@ -48,7 +48,7 @@ no_since = record { frozen = None; held = None }
 abbrev pub since_text : Since → List ℕ
 since_text since = optional_text since.frozen ++ (codes "," ++ optional_text since.held)
 
--- entry i: how it matches, its bytes, the rights of machine mode and of the other modes, its locks, and since when
+-- entry i: how it matches, its bytes, the rights of M-mode and of S-mode and U-mode, its locks, and since when
 unfoldable pub entry_row : RegisterFile → ℕ → Option Span → Since → List ℕ
 entry_row file i span since =
     decimal i
@@ -56,7 +56,7 @@ entry_row file i span since =
     ∷ rights_text (rights file i M) ∷ rights_text (rights file i U) ∷ lock_text (lock_of file i)
     ∷ address_text (is_address_frozen file i) ∷ since_text since ∷ [])
 
--- a row for each entry, with what the list has for it
+-- a row for each entry, with the list's value for it
 pub record IsEntryText (file : RegisterFile) (since : List Since) (text : List ℕ) : Type 0 where
   pub span : ℕ → Option Span
   pub spans : (i : ℕ) → i < length file.entries → IsSpan file i (span i)

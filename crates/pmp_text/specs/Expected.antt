@@ -9,13 +9,13 @@ use Rattle.pmp_text.specs.Reports.{fields_after}
 abbrev pub expected_text : (expected value : ℕ) → List ℕ
 expected_text expected value = if value == expected then codes "expected" else codes "differs"
 
--- the register's name, what is expected, nothing, what the register reads, whether it is so, and twice nothing
+-- the register's name, the expected value, nothing, what the register reads, whether they agree, and nothing twice
 abbrev pub expected_fields : Expectation → (value : ℕ) → List (List ℕ)
 expected_fields expectation value =
     register_name expectation.register ∷ value_text expectation.value ∷ [] ∷ value_text value
     ∷ expected_text expectation.value value ∷ [] ∷ [] ∷ []
 
--- the row in the fields of an event's row, with no number of an event or of a publication
+-- the row with the fields of an event's row, but no numbers of an event and of a publication
 unfoldable pub expected_row : Expectation → (value : ℕ) → List ℕ
 expected_row expectation value =
     codes ",," ++ (decimal expectation.line ++ fields_after (expected_fields expectation value))

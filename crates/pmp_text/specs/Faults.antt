@@ -8,7 +8,7 @@ use Rattle.pmp_text.specs.ScriptFaults.{line_fault, first_fault}
 use Rattle.pmp_text.specs.Scripts.{most_bytes, script_meaning}
 use Rattle.pmp_text.specs.Flaws.{at_line}
 
--- the fault of the line with this index, by the lines before it
+-- the fault of the line with this index, given the lines before it
 abbrev pub fault_at : List Line → (index : ℕ) → Option ScriptFault
 fault_at lines index = option_and_then {T = Line} {U = ScriptFault}
     (λ line. option_map (at_line line.number) (line_fault (reverse (take index lines)) line)) (slice_get lines index)
@@ -19,13 +19,13 @@ pub record IsLeastFault {F : Type 0} (faults : ℕ → Option F) (fault : F) : T
   pub here : faults index ≡ Some fault
   pub none_before : (before : ℕ) → before < index → faults before ≡ None
 
--- the first fault is that of the least faulty line, and where there is none, no line is faulty
+-- the first fault is that of the first faulty line; if there is none, no line is faulty
 abbrev pub FirstFaultLaw : Type 0
 FirstFaultLaw = (lines : List Line)
     → MatchOption (first_fault [] lines) ((index : ℕ) → fault_at lines index ≡ None)
     (λ fault. IsLeastFault (fault_at lines) fault)
 
--- a text that isn't too long is refused with the fault of its least faulty line, in longhand, where it has one
+-- a text that isn't too long is refused with the fault of its first faulty line, in longhand, if it has one
 abbrev pub LeastFaultLaw : Type 0
 LeastFaultLaw = (text : List ℕ) → (fault : ScriptFault) → length text ≤ most_bytes text
     → IsLeastFault (fault_at (meant_lines text)) fault → script_meaning text ≡ Err fault

@@ -10,7 +10,7 @@ use Rattle.pmp_text.specs.declared.trace.TraceFault.{TraceFault}
 abbrev pub part : (index : ℕ) → Refusal → Flaw
 part index kind = record { kind = kind; part = Some index }
 
--- the whole is at fault, and no part of it more than another
+-- the whole is at fault, not one part
 abbrev pub as_whole : Refusal → Flaw
 as_whole kind = record { kind = kind; part = None }
 
@@ -22,17 +22,17 @@ at_line number flaw = record { kind = flaw.kind; line = number; word = flaw.part
 abbrev pub at_row : ℕ → Flaw → TraceFault
 at_row number flaw = record { kind = flaw.kind; row = number; field = flaw.part }
 
--- what comes of the field with this index, which is at fault where it says nothing
+-- the result for the field with this index, which is at fault if it can't be read
 abbrev pub of_part : {X Y : Type 0} → (index : ℕ) → (says : Option X) → (X → Result Y Flaw) → Result Y Flaw
 of_part index None next = Err (part index BadRow)
 of_part index (Some x) next = next x
 
--- the same where the field says of itself how it is refused
+-- the same if reading the field gives its own refusal
 abbrev pub in_part : {X Y : Type 0} → (index : ℕ) → Result X Refusal → (X → Result Y Flaw) → Result Y Flaw
 in_part index (Err kind) next = Err (part index kind)
 in_part index (Ok x) next = next x
 
--- one thing after another: the first flaw is the flaw
+-- one step after another: the first flaw is the flaw
 abbrev pub and_then : {X Y : Type 0} → Result X Flaw → (X → Result Y Flaw) → Result Y Flaw
 and_then (Ok x) next = next x
 and_then (Err flaw) next = Err flaw

@@ -1,4 +1,4 @@
--- What the head of a script says: its hart, and what the registers have before the first event.
+-- What the head of a script gives: its hart, and the registers before the first event.
 use Rattle.std.specs.Prelude.{ℕ, ◌+◌, ◌*◌, ◌%◌, ◌^◌, ◌==◌, ◌&&◌, ◌||◌, ◌++◌, Bool, true, false, List, drop, find, fold}
 use Rattle.std.specs.Prelude.{not, nat_lt, slice_set, take, Option, Some, None, Result, Ok, Err, option_map, unwrap_or, [], ◌∷◌}
 use Rattle.std.specs.Prelude.{if◌then◌else◌}
@@ -37,11 +37,11 @@ use Rattle.pmp_text.specs.Flaws.{at_line, part}
 
 -- ---- the hart
 
--- what is said of the hart where nothing is; 0 address bits are as many as XLEN allows
+-- the default hart; 0 address bits are as many as XLEN allows
 abbrev pub unsaid_hart : Profile
 unsaid_hart = record (profile_of Sixteen) { address_bits = 0 }
 
--- what is said with this in place of what was
+-- the hart with this field replaced
 abbrev pub with_field : Profile → HartField → Profile
 with_field said (Xlen is_rv32) = record said { is_rv32 = is_rv32 }
 with_field said (Entries n) = record said { entries = n }
@@ -77,11 +77,11 @@ abbrev pub with_statement : Profile → HeadStatement → Profile
 with_statement said (Hart field) = with_field said field
 with_statement said (Set register value) = said
 
--- what these lines say of the hart, in any order
+-- the hart that these lines give, in any order
 abbrev pub profile_said : List HeadLine → Profile
 profile_said lines = fold (λ said line. with_statement said line.statement) unsaid_hart lines
 
--- whether XLEN is 32 once a line says this
+-- whether XLEN is 32 after a line with this
 abbrev pub rv32_with : HeadStatement → (before : Bool) → Bool
 rv32_with (Hart (Xlen is_rv32)) before = is_rv32
 rv32_with (Hart (Entries n)) before = before
@@ -102,14 +102,14 @@ abbrev pub says_bits : HeadStatement → Bool
 says_bits (Hart (Bits n)) = true
 says_bits _ = false
 
--- a number of address bits that no hart of this XLEN has, at the line that says it
+-- a number of address bits that no hart of this XLEN has, at the line that gives it
 unfoldable pub bits_fault : List HeadLine → Option ScriptFault
 bits_fault lines =
     let line = find (λ line. says_bits line.statement) lines in
     option_map (λ fault. at_line (unwrap_or (option_map (λ line. line.line) line) 0) (part 2 (hart_kind fault)))
     (hart_fault (hart_said lines))
 
--- ---- what is said twice
+-- ---- what is given twice
 
 abbrev pub same_field : HartField → HartField → Bool
 same_field (Xlen is_rv32) (Xlen is_too) = true
@@ -126,7 +126,7 @@ same_register Mseccfg Mseccfg = true
 same_register Mseccfgh Mseccfgh = true
 same_register _ _ = false
 
--- two lines say the same field of the hart, or set the same register
+-- two lines give the same field of the hart, or set the same register
 abbrev pub is_same : HeadStatement → HeadStatement → Bool
 is_same (Hart field) (Hart other) = same_field field other
 is_same (Set register value) (Set other_register other) = same_register register other_register
@@ -134,7 +134,7 @@ is_same _ _ = false
 
 -- ---- registers of the hart
 
--- how a register is refused that no hart of this XLEN has
+-- the refusal of a register that no hart of this XLEN has
 abbrev pub foreign_kind : (is_rv32 : Bool) → Csr → Option Refusal
 foreign_kind is_rv32 (Cfg n) = if not is_rv32 && n % 2 == 1 then Some kind.OddCfg else None
 foreign_kind is_rv32 (Addr n) = None
@@ -154,7 +154,7 @@ foreign_line is_rv32 line = foreign_set is_rv32 line.line line.statement
 abbrev pub foreign_expectation : (is_rv32 : Bool) → Expectation → Option ScriptFault
 foreign_expectation is_rv32 expected = foreign_at is_rv32 expected.line expected.register
 
--- the first fault of one in the list
+-- the first fault in the list
 abbrev pub first_of : {X : Type 0} → (X → Option ScriptFault) → List X → Option ScriptFault
 first_of fault [] = None
 first_of fault (x ∷ xs) = option_or (fault x) (first_of fault xs)
@@ -172,12 +172,12 @@ event_flaw Headed is_rv32 Reset = None
 
 -- ---- what registers are set to
 
--- so many bytes of a value, the lowest first, in place of those of the entries from the first on
+-- `count` bytes of a value, the lowest first, replace those of the entries from `first` on
 abbrev pub with_bytes : (configurations : List ℕ) → (first count value : ℕ) → List ℕ
 with_bytes configurations first count value =
     take first configurations ++ (take count (to_le_bytes w64 value) ++ drop (first + count) configurations)
 
--- the numbers of this hart with this value of a register in place of what they had
+-- this hart's numbers, with a register's replaced by this value
 abbrev pub with_register : Profile → SavedRegisters → Csr → ℕ → SavedRegisters
 with_register hart saved (Cfg n) value =
     if nat_lt n 16
@@ -191,7 +191,7 @@ abbrev pub with_set : Profile → SavedRegisters → HeadStatement → SavedRegi
 with_set hart saved (Hart field) = saved
 with_set hart saved (Set register value) = with_register hart saved register value
 
--- the file of this hart that these lines say: that of reset with the values that are set, bound by no lock
+-- the file of this hart that these lines give: that of reset with the values that are set, whatever is locked
 abbrev pub start_on : Profile → List HeadLine → RegisterFile
 start_on hart lines =
     restored_file (fold (λ saved line. with_set hart saved line.statement) (saved_registers (reset_file hart)) lines)
@@ -199,7 +199,7 @@ start_on hart lines =
 abbrev pub start_said : List HeadLine → RegisterFile
 start_said lines = start_on (hart_said lines) lines
 
--- all that a register keeps, of an address the bits below the grain too
+-- all that a register stores, of an address also the bits below the grain
 abbrev pub kept_value : RegisterFile → Csr → ℕ
 kept_value file (Addr n) = (entry_at file.entries n).address
 kept_value file register = register_value file register
@@ -208,28 +208,28 @@ abbrev pub is_kept : RegisterFile → HeadStatement → Bool
 is_kept file (Hart field) = true
 is_kept file (Set register value) = kept_value file register == value
 
--- the line of the first value that its register doesn't keep
+-- the line of the first value that its register doesn't store
 abbrev pub first_not_held : RegisterFile → List HeadLine → Option ℕ
 first_not_held file lines =
     option_map (λ line. line.line) (find (λ line. not (is_kept file line.statement)) lines)
 
 -- ---- all
 
--- a register that the hart doesn't have, in a line or in what is expected, and then a value that its register doesn't
--- keep, which only the whole head shows
+-- a register that the hart doesn't have, in a line or an expectation, and then a value that its register doesn't store,
+-- which only the whole head shows
 unfoldable pub fault_on : RegisterFile → List HeadLine → List Expectation → Option ScriptFault
 fault_on file lines expectations =
     let is_rv32 = file.profile.is_rv32 in
     option_or (option_or (first_of (foreign_line is_rv32) lines) (first_of (foreign_expectation is_rv32) expectations))
     (option_map (λ number. at_line number (part 2 kind.NotHeld)) (first_not_held file lines))
 
--- the file that the lines of a head say, if they have no such fault, and a hart of their XLEN has their address bits
+-- the file that a head's lines give, if they have no such fault, and a hart of their XLEN has their address bits
 abbrev pub started : List HeadLine → List Expectation → Result RegisterFile ScriptFault
 started lines expectations = elim (bits_fault lines) [
   | Some fault ↦ Err fault
   | None ↦ elim (fault_on (start_said lines) lines expectations) [ Some fault ↦ Err fault | None ↦ Ok (start_said lines) ]
 ]
 
--- how many entries are shown of a unit
+-- how many of a unit's entries are shown
 abbrev pub size_for : RegisterFile → Size
 size_for file = if nat_lt ENTRIES file.profile.entries then SixtyFour else Sixteen

@@ -6,18 +6,18 @@ use Rattle.pmp_text.specs.Bytes.{Takes, TakesAtMost}
 use Rattle.pmp_text.specs.declared.refusal.Refusal.{Refusal}
 use Rattle.pmp_text.specs.declared.refusal.Refusal.TheVariants.{TooLong, Input, Memory}
 
--- one read brought more bytes than there is room for, or failed
+-- one read gave more bytes than there is room for, or failed
 abbrev pub CantReadPart : (room : ℕ) (old new : Option (List ℕ)) → Refusal → Type 0
 CantReadPart room old new refusal =
     ((refusal ≡ TooLong) × Takes old new (room + 1)) ⊎ ((refusal ≡ Input) × Keeps old new)
 
--- there are more bytes than the limit, of which one more was taken, or the input failed, or memory ran out
+-- there are more bytes than the limit, and one more was taken; or the input failed, or memory ran out
 abbrev pub CantReadWhole : (limit : ℕ) (old new : Option (List ℕ)) → Refusal → Type 0
 CantReadWhole limit old new refusal =
     ((refusal ≡ TooLong) × IfSome old (λ left. limit < length left) × Takes old new (limit + 1))
     ⊎ (((refusal ≡ Input) ⊎ (refusal ≡ Memory)) × TakesAtMost old new limit)
 
--- the reader had the `old` bytes left and has the `new` ones: it gave all, or there were more than the limit, or it
+-- the reader had the `old` bytes left and has the `new` ones now: it gave all, or had more than the limit, or it
 -- failed
 pub record IsReadWhole (limit : ℕ) (old new : Option (List ℕ))
     (result : Result (Vec ℕ Global) Refusal) : Type 0 where

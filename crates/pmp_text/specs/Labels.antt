@@ -1,4 +1,4 @@
--- What people call the rows of a policy, and what they say of them.
+-- The names and comments of a policy's rows.
 use Rattle.std.specs.Prelude.{ℕ, List, [], ◌∷◌, map, Option, Some, None, if◌then◌else◌}
 use Rattle.csv.specs.Writing.{default_writer, field_text}
 use Rattle.pmp_text.specs.declared.policy.label.Label.{Label}
@@ -14,30 +14,30 @@ pub record LabelText : Type 0 where
 abbrev pub label_text : Label → LabelText
 label_text label = record { name = label.name.items; comment = label.comment.items }
 
--- those of a record
+-- the label of a record
 abbrev pub label_in : List (List ℕ) → LabelText
 label_in fields = elim (nine_fields fields) [
   | Some all ↦ record { name = all.name; comment = all.comment }
   | None ↦ record { name = []; comment = [] }
 ]
 
--- those of the records behind a header
+-- the labels of the records after a header
 abbrev pub labels_behind : List (List (List ℕ)) → List LabelText
 labels_behind [] = []
 labels_behind (header ∷ rows) = if is_labeled (header ∷ rows) then map label_in rows else []
 
--- the labels of a policy's rows, in their order, where its header names them; else there are none
+-- the labels of a policy's rows, in order, if its header has them; else there are none
 abbrev pub policy_labels : (text : List ℕ) → List LabelText
 policy_labels text = labels_behind (records_of text)
 
--- what a policy that was read says by its rows, and calls them
+-- the rows of a policy that was read, and their labels
 abbrev pub rows_said : Policy → List PolicyFields
 rows_said policy = map policy_fields policy.rows.items
 
 abbrev pub labels_said : Policy → List LabelText
 labels_said policy = map label_text policy.labels.items
 
--- the fields of CSV that a verdict has of them
+-- the CSV fields of a label in a verdict
 abbrev pub label_fields : Option LabelText → List (List ℕ)
 label_fields None = []
 label_fields (Some label) =

@@ -1,4 +1,4 @@
--- What a reader has to believe: what each text means, and what each call answers.
+-- What a reader must trust: what each text means, and what each call returns.
 pub mod AccessWords
 pub mod Bytes
 pub mod Changes
@@ -39,11 +39,11 @@ pub mod Statements
 pub mod Tables
 pub mod Traces
 pub mod Verdicts
--- Laws of these definitions, which are proved.
+-- Laws of these definitions, all proved.
 pub mod Faults
 pub mod PolicyFaults
 pub mod Sizes
 pub mod TraceFaults
 pub mod Versions
--- The rest: the readers' steps, which only private contracts cite.
+-- The rest: the readers' steps, used only by private contracts.
 pub mod Steps

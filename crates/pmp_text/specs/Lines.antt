@@ -3,11 +3,11 @@ use Rattle.std.specs.Prelude.{ℕ, List, [], ◌∷◌, length, map, filter, Boo
 use Rattle.std.specs.List.{slice_split}
 use Rattle.std.specs.Str.Lines.{strip_carriage_return}
 
--- what parts lines
+-- what separates lines
 abbrev pub is_line_feed : ℕ → Bool
 is_line_feed byte = byte == 10
 
--- what parts words: space and tab
+-- what separates words: space and tab
 abbrev pub is_blank : ℕ → Bool
 is_blank byte = byte == 32 || byte == 9
 
@@ -18,7 +18,7 @@ has_bytes piece = nat_lt 0 (length piece)
 unfoldable pub words : List ℕ → List (List ℕ)
 words line = filter has_bytes (slice_split is_blank line)
 
--- what stands after the last line feed is no line where it is empty
+-- what follows the last line feed is no line if it is empty
 abbrev pub without_empty_end : List (List ℕ) → List (List ℕ)
 without_empty_end [] = []
 without_empty_end (piece ∷ []) = if has_bytes piece then piece ∷ [] else []

@@ -1,4 +1,4 @@
--- What a trace of any length means, what a piece of it means where it stands, and how both are reported.
+-- What a trace of any length means, what a piece of it means at its place, and how both are reported.
 use Rattle.std.specs.Prelude.{◌≡◌, ℕ, ◌+◌, ◌^◌, ◌≤◌, List, [], ◌∷◌, ◌++◌, length, map, filter_map, Bool}
 use Rattle.std.specs.Prelude.{true, false, ⊤}
 use Rattle.std.specs.Prelude.{Option, Some, None, Result, Ok, if◌then◌else◌}
@@ -27,7 +27,7 @@ abbrev pub long_rows_meaning : KnownMoments → (first : ℕ) → Records → Re
 long_rows_meaning moments first rows =
     fault_or_rows (first_row_fault moments None first rows) (filter_map (row_of_record moments) rows)
 
--- what the records of a trace mean, of any number of bytes: as those of a text within the limit, numbered from 1
+-- what the records of a trace of any length mean: numbered from 1, as those of a text within the limit
 abbrev pub long_meaning : KnownMoments → (first : ℕ) → Records → Result (List RowFields) TraceFault
 long_meaning moments first = behind_header is_header (long_rows_meaning moments first)
 
@@ -36,7 +36,7 @@ unfoldable pub report_text_from : (first : ℕ) → List Row → List Decision �
 report_text_from first rows decisions = flat_map (λ (number, (row, decision)). report_row number row.access decision)
     (enumerate_from first (zip rows decisions))
 
--- the records are those of a header and of these rows, and the text reports their decisions
+-- the records are a header and these rows, and the text reports their decisions
 pub record IsReportOf (script : ScriptContents) (first : ℕ) (records : Records) (text : List ℕ) : Type 0 where
   pub rows : List Row
   pub decisions : List Decision
@@ -46,7 +46,7 @@ pub record IsReportOf (script : ScriptContents) (first : ℕ) (records : Records
 
 -- ---- lines
 
--- so many bytes in a row have no line end
+-- at least `most` bytes in a row have no line end
 abbrev pub HasLongLine : (text : List ℕ) → (most : ℕ) → Type 0
 HasLongLine text most = (front line behind : List ℕ) × (text ≡ front ++ (line ++ behind))
     × (list_any is_line_end line ≡ false) × (most ≤ length line)
@@ -59,19 +59,19 @@ row_records true records = records
 row_records false [] = []
 row_records false (header ∷ rows) = rows
 
--- the first record of a trace is its header
+-- whether the header was read, in these records or before
 abbrev pub has_begun : (begun : Bool) → Records → Bool
 has_begun true records = true
 has_begun false [] = false
 has_begun false (header ∷ rows) = true
 
--- where a first record stands there, it names the fields
+-- the trace's first record, if it is among these, names the fields
 abbrev pub IsHeaded : (begun : Bool) → Records → Type 0
 IsHeaded true records = ⊤
 IsHeaded false [] = ⊤
 IsHeaded false (header ∷ rows) = is_header header ≡ true
 
--- how many publications the last of these rows asks for; where there is none, that is `last`
+-- how many publications the last of these rows asks for, or `last` if there is none
 abbrev pub last_after : KnownMoments → (last : Option ℕ) → Records → Option ℕ
 last_after moments last [] = last
 last_after moments last (row ∷ more) = last_after moments (after_of (row_of_record moments row)) more
@@ -80,7 +80,7 @@ last_after moments last (row ∷ more) = last_after moments (after_of (row_of_re
 abbrev pub is_bare_record : KnownMoments → List (List ℕ) → Bool
 is_bare_record moments fields = elim (row_of_record moments fields) [ Some row ↦ row.is_bare | None ↦ false ]
 
--- where the records stand that follow on rows
+-- the place of the records that follow rows
 abbrev pub rows_behind : KnownMoments → Place → Records → Place
 rows_behind moments place rows = record {
   begun = true;
@@ -89,7 +89,7 @@ rows_behind moments place rows = record {
   bare = option_or place.bare (position_from (is_bare_record moments) place.next rows);
 }
 
--- where the records stand that follow on these
+-- the place of the records that follow these
 abbrev pub place_behind : KnownMoments → Place → Records → Place
 place_behind moments place records = record {
   begun = has_begun place.begun records;
@@ -98,7 +98,7 @@ place_behind moments place records = record {
   bare = option_or place.bare (position_from (is_bare_record moments) place.next (row_records place.begun records));
 }
 
--- the first fault of records that stand there; of no header only the end of a trace tells
+-- the first fault of records at this place; only the end of a trace shows that there is no header
 abbrev pub first_fault_at : KnownMoments → (begun : Bool) → (last : Option ℕ) → (next : ℕ) → Records
     → Option TraceFault
 first_fault_at moments true last next rows = first_row_fault moments last next rows
@@ -109,7 +109,7 @@ first_fault_at moments false last next (header ∷ rows) =
 abbrev pub piece_fault : KnownMoments → Place → Records → Option TraceFault
 piece_fault moments place = first_fault_at moments place.begun place.last place.next
 
--- rows without a fault stand in front, of which the last one would have the number 2^64 - 1 or more
+-- rows without a fault come first, and the last one would have the number 2^64 - 1 or more
 pub record HasTooManyRows (moments : KnownMoments) (place : Place) (records : Records) : Type 0 where
   pub front : Records
   pub behind : Records
@@ -117,10 +117,10 @@ pub record HasTooManyRows (moments : KnownMoments) (place : Place) (records : Re
   pub fine : piece_fault moments place front ≡ None
   pub many : 2 ^ 64 ≤ (place_behind moments place front).next
 
--- where a trace begins whose first row has this number
+-- the place where a trace begins whose first row has this number
 abbrev pub beginning : (first : ℕ) → Place
 beginning first = record { begun = false; last = None; next = first; bare = None }
 
--- a row or a line is too long, which is the fault of no row
+-- a row or a line is too long, which is no row's fault
 abbrev pub too_long_for_rows : TraceFault
 too_long_for_rows = at_row 0 (as_whole TooLong)

@@ -17,17 +17,17 @@ begins_with_letter (first ∷ more) = is_letter first
 abbrev pub is_name_byte : (byte : ℕ) → Bool
 is_name_byte byte = is_letter byte || ((nat_le 48 byte && nat_le byte 57) || (byte == 95 || byte == 46))
 
--- `last`, `mml`, `mmwp` and `rlb` have meanings of their own
+-- `last`, `mml`, `mmwp` and `rlb` have their own meanings
 abbrev pub is_taken : List ℕ → Bool
 is_taken word = bytes_eq word (codes "last")
     || (bytes_eq word (codes "mml") || (bytes_eq word (codes "mmwp") || bytes_eq word (codes "rlb")))
 
--- a letter, then letters, digits, `_` and `.`, and not too many
+-- a letter, then letters, digits, `_` and `.`, not too many, and no taken word
 abbrev pub is_name : List ℕ → Bool
 is_name word = begins_with_letter word
     && (list_all is_name_byte word && (nat_le (length word) NAME_BYTES && not (is_taken word)))
 
--- the name that a word is, with zeros behind it
+-- the name that a word is, padded with zeros
 abbrev pub name_said : List ℕ → Option Name
 name_said word =
     if is_name word then Some (record { bytes = word ++ drop (length word) (replicate NAME_BYTES 0) }) else None
@@ -35,7 +35,7 @@ name_said word =
 abbrev pub zero_place : List ℕ → Option ℕ
 zero_place bytes = position_from (λ byte. byte == 0) 0 bytes
 
--- a name's bytes, without the zeros behind it
+-- a name's bytes, without the zeros after them
 abbrev pub name_bytes : Name → List ℕ
 name_bytes name = take (unwrap_or (zero_place name.bytes) NAME_BYTES) name.bytes
 

@@ -1,4 +1,4 @@
--- The moments of a script, each of them how many publications are done, as words say them.
+-- The moments of a script, each a number of publications done, and the words for them.
 use Rattle.std.specs.Prelude.{ℕ, ◌-◌, List, [], ◌∷◌, length, take, drop, Bool, false, ◌||◌, Option, Some, None, Result, Ok, Err}
 use Rattle.std.specs.Prelude.{find, option_map, nat_le, nat_lt, codes, bytes_eq, if◌then◌else◌}
 use Rattle.pmp_text.specs.declared.moments.Asked.{Asked}
@@ -18,24 +18,24 @@ use Rattle.pmp_text.specs.Contents.{ScriptContents}
 use Rattle.pmp_text.specs.Marks.{name_said, same_name}
 use Rattle.pmp_text.specs.Numbers.{word_number}
 
--- how many publications a script has, the moments that it names, where its version names any, and from when on its bits
--- of mseccfg hold to the end, where words may say that
+-- how many publications a script has, the moments that it names, if its version has any, and since when its bits of
+-- mseccfg last to the end, if words may name that
 pub record KnownMoments : Type 0 where
   pub publications : ℕ
   pub marks : Option (List Mark)
   pub lasting : Option Lasting
 
--- those that the script's own text tells
+-- those that the script's own text gives
 abbrev pub moments_in : ScriptContents → KnownMoments
 moments_in script = record { publications = length script.batches; marks = script.marks; lasting = None }
 
--- those of a script whose version names none
+-- those of a script whose version has none
 abbrev pub unnamed_moments : (publications : ℕ) → KnownMoments
 unnamed_moments publications = record { publications = publications; marks = None; lasting = None }
 
--- ---- what a word says
+-- ---- what a word means
 
--- no number: the last moment, one so many before it, the first from which MML or MMWP is set, or RLB clear, to the end
+-- no number: the last moment, one that far before it, the first since when MML or MMWP is set, or RLB clear, to the end
 -- (Smepmp, mseccfg), or one that the script names
 unfoldable pub label_said : List ℕ → Option MomentName
 label_said word =
@@ -46,16 +46,16 @@ label_said word =
     else (if bytes_eq (take 5 word) (codes "last-") then option_map (λ back. Last back) (word_number (drop 5 word))
     else option_map (λ name. Marked name) (name_said word)))))
 
--- a number, or what is none
+-- a number, or a name
 abbrev pub when_said : List ℕ → Option When
 when_said word = elim (word_number word) [
   | Some number ↦ Some (Number number)
   | None ↦ option_map (λ label. Labelled label) (label_said word)
 ]
 
--- ---- when that is
+-- ---- which moment it is
 
--- so many before the last one, where there are as many
+-- that many before the last, if there are as many
 abbrev pub back_from : (publications back : ℕ) → Option ℕ
 back_from publications back = if nat_le back publications then Some (publications - back) else None
 
@@ -76,12 +76,12 @@ place_among moments marks Mmwp = lasting_place moments.lasting (λ lasting. last
 place_among moments marks RlbClear = lasting_place moments.lasting (λ lasting. lasting.rlb_clear)
 place_among moments marks (Marked name) = mark_place marks name
 
--- a moment, or one that never comes, where the script's version names any
+-- a moment, or one that never comes, if the script's version names any
 abbrev pub label_place : KnownMoments → MomentName → Result (Option ℕ) Refusal
 label_place moments label =
     elim moments.marks [ Some marks ↦ place_among moments marks label | None ↦ Err BadRow ]
 
--- it has to come
+-- it must come
 abbrev pub that_comes : Result (Option ℕ) Refusal → Result ℕ Refusal
 that_comes (Ok (Some place)) = Ok place
 that_comes (Ok None) = Err NoMoment
@@ -91,13 +91,13 @@ abbrev pub when_place : KnownMoments → When → Result ℕ Refusal
 when_place moments (Number number) = Ok number
 when_place moments (Labelled label) = that_comes (label_place moments label)
 
--- how many publications are done when a word says
+-- how many publications are done at the moment of a word
 unfoldable pub after_said : KnownMoments → List ℕ → Result ℕ Refusal
 after_said moments word = elim (when_said word) [ Some when ↦ when_place moments when | None ↦ Err BadRow ]
 
 -- ---- the rows of a policy
 
--- the word ends with ` if-any`, and what stands before that
+-- the word ends with ` if-any`, and what precedes that
 abbrev pub is_waived : List ℕ → Bool
 is_waived word = bytes_eq (drop (length word - 7) word) (codes " if-any")
 
@@ -108,14 +108,14 @@ abbrev pub named_at : (waived : Bool) → Result (Option ℕ) Refusal → Result
 named_at waived (Ok place) = Ok (Named place waived)
 named_at waived (Err kind) = Err kind
 
--- what a word says that is no number
+-- what a word means that is no number
 unfoldable pub moment_named : KnownMoments → List ℕ → Result Moment Refusal
 moment_named moments word = elim (label_said (name_in word)) [
   | Some label ↦ named_at (is_waived word) (label_place moments label)
   | None ↦ Err BadRow
 ]
 
--- the moment that a word says: a number, or what it names
+-- the moment of a word: a number, or what it names
 abbrev pub moment_said : KnownMoments → List ℕ → Result Moment Refusal
 moment_said moments word = elim (word_number word) [ Some number ↦ Ok (Numbered number) | None ↦ moment_named moments word ]
 
@@ -128,7 +128,7 @@ abbrev pub unless_backward : (from : Moment) → Result Moment Refusal → Resul
 unless_backward from (Ok to) = if is_backward from to then Err BadRow else Ok to
 unless_backward from (Err kind) = Err kind
 
--- the moment up to which a row asks: nothing stands for the last one
+-- the last moment that a row asks about: nothing means the last one
 abbrev pub to_said : KnownMoments → (from : Moment) → List ℕ → Result Moment Refusal
 to_said moments from [] = Ok (Named (Some moments.publications) false)
 to_said moments from (byte ∷ more) = unless_backward from (moment_said moments (byte ∷ more))
@@ -141,18 +141,18 @@ abbrev pub waives : Moment → Bool
 waives (Numbered place) = false
 waives (Named place waived) = waived
 
--- a row asks of no moment, for which the last one stands
+-- a row asks about no moment, and has the last one instead
 abbrev pub unasked : (publications : ℕ) → (waived : Bool) → Asked
 unasked publications waived =
     record { from = publications; to = publications; coming = if waived then coming.Waived else coming.Unmet }
 
--- a row asks from one moment to the other, where these come, and the second not before the first
+-- a row asks from one moment to the other, if both come in order, or the first is past the end
 abbrev pub between_places : (publications : ℕ) → (waived : Bool) → (from to : Option ℕ) → Asked
 between_places publications waived (Some from) (Some to) =
     if nat_le from to || nat_lt publications from then record { from = from; to = to; coming = coming.Met }
     else unasked publications waived
 between_places publications waived _ _ = unasked publications waived
 
--- what a row asks of that goes from one moment to the other; one word that waives is enough
+-- what a row asks about from one moment to the other; one word that waives is enough
 abbrev pub asked_between : (publications : ℕ) → (from to : Moment) → Asked
 asked_between publications from to = between_places publications (waives from || waives to) (place_of from) (place_of to)

@@ -22,7 +22,7 @@ register_name Mseccfgh = codes "mseccfgh"
 
 -- ---- read
 
--- a number that is at most so large
+-- a number that is at most `most`
 abbrev pub up_to : (most : ℕ) → Option ℕ → Option ℕ
 up_to most None = None
 up_to most (Some number) = if nat_le number most then Some number else None
@@ -32,7 +32,7 @@ unfoldable pub plain_number : (most : ℕ) → List ℕ → Option ℕ
 plain_number most digits =
     if length digits == 2 && slice_index digits 0 == 48 then None else up_to most (numeral 10 2 digits)
 
--- the number of the register that stands so far behind the first of its kind
+-- the number of the register this far after the first of its kind
 abbrev pub counted_from : (base : ℕ) → Option ℕ → Option ℕ
 counted_from base None = None
 counted_from base (Some offset) = Some (base + offset)
@@ -48,7 +48,7 @@ register_number word =
     then counted_from 0x3b0 (plain_number (MAX_ENTRIES - 1) (drop 7 word))
     else (if bytes_eq (take 2 word) (codes "0x") then numeral 16 16 (drop 2 word) else None))))
 
--- how a script refuses a number of no register
+-- a script's refusal of a number of no register
 abbrev pub named : Result Csr CsrFault → Result Csr Refusal
 named (Ok csr) = Ok csr
 named (Err csr_fault.OddCfg) = Err OddCfg
@@ -58,11 +58,11 @@ abbrev pub register_numbered : (is_rv32 : Bool) → Option ℕ → Result Csr Re
 register_numbered is_rv32 None = Err BadName
 register_numbered is_rv32 (Some number) = named (numbered_on is_rv32 number)
 
--- on a hart of XLEN 32, which has each register of RV64, or of 64
+-- on a hart of XLEN 32, which has every register of RV64, or of 64
 abbrev pub register_named : (is_rv32 : Bool) → List ℕ → Result Csr Refusal
 register_named is_rv32 word = register_numbered is_rv32 (register_number word)
 
--- the written name of a register that has a number is read as that register
+-- a register's written name is read as that register
 abbrev pub NamesReadBackLaw : Type 0
 NamesReadBackLaw = (is_rv32 : Bool) (number : ℕ) (csr : Csr) → numbered_on is_rv32 number ≡ Ok csr
     → register_named is_rv32 (register_name csr) ≡ Ok csr

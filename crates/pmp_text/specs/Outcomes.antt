@@ -1,4 +1,4 @@
--- What a call answers that may run out of memory.
+-- What a call returns that may run out of memory.
 use Rattle.std.specs.Prelude.{◌≡◌, ◌⊎◌, Result, Ok, Err}
 use Rattle.csv.specs.declared.error.ErrorKind.{ErrorKind}
 use Rattle.csv.specs.declared.error.ErrorKind.TheVariants as csv_error
@@ -7,16 +7,16 @@ use Rattle.pmp_text.specs.declared.script.ScriptFault.{ScriptFault}
 use Rattle.pmp_text.specs.declared.trace.TraceFault.{TraceFault}
 use Rattle.pmp_text.specs.Flaws.{at_line, at_row, as_whole}
 
--- memory ran out, which is the fault of no line
+-- memory ran out, which is no line's fault
 abbrev pub out_of_memory : ScriptFault
 out_of_memory = at_line 0 (as_whole Memory)
 
--- the answer, seen by view, is what is meant, or memory ran out
+-- the result, seen by view, is the meaning, or memory ran out
 abbrev pub Gives : {X Y : Type 0} → (X → Y) → Result X ScriptFault → Result Y ScriptFault → Type 0
 Gives view (Ok x) meant = meant ≡ Ok (view x)
 Gives view (Err fault) meant = (meant ≡ Err fault) ⊎ (fault ≡ out_of_memory)
 
--- memory ran out, which is the fault of no row
+-- memory ran out, which is no row's fault
 abbrev pub no_memory_for_rows : TraceFault
 no_memory_for_rows = at_row 0 (as_whole Memory)
 
@@ -24,12 +24,12 @@ no_memory_for_rows = at_row 0 (as_whole Memory)
 abbrev pub no_input_for_rows : TraceFault
 no_input_for_rows = at_row 0 (as_whole Input)
 
--- the fault of a trace at an error of the crate `csv`: memory ran out, or else the input failed
+-- the fault of a trace for an error of the crate `csv`: memory ran out, or else the input failed
 abbrev pub csv_fault : ErrorKind → TraceFault
 csv_fault csv_error.OutOfMemory = no_memory_for_rows
 csv_fault _ = no_input_for_rows
 
--- the answer, seen by view, is what is meant, or memory ran out, or the input failed
+-- the result, seen by view, is the meaning, or memory ran out, or the input failed
 abbrev pub GivesRows : {X Y : Type 0} → (X → Y) → Result X TraceFault → Result Y TraceFault → Type 0
 GivesRows view (Ok x) meant = meant ≡ Ok (view x)
 GivesRows view (Err fault) meant = (meant ≡ Err fault) ⊎ (fault ≡ no_memory_for_rows) ⊎ (fault ≡ no_input_for_rows)

@@ -20,7 +20,7 @@ use Rattle.pmp_text.specs.RunLines.{rights_text}
 
 -- ---- a run
 
--- how many there are of the largest unit that parts the bytes evenly
+-- how many of the largest unit that divides the bytes evenly
 abbrev pub size_text : (bytes : ℕ) → List ℕ
 size_text bytes =
     if bytes % 2 ^ 50 == 0 then decimal (bytes / 2 ^ 50) ++ codes " PiB"
@@ -30,7 +30,7 @@ size_text bytes =
     else (if bytes % 2 ^ 10 == 0 then decimal (bytes / 2 ^ 10) ++ codes " KiB"
     else decimal bytes ++ codes " bytes"))))
 
--- how many bytes the run has, or none where it goes on to the end of all bytes
+-- how many bytes the run has, or none if it goes on to the end of all bytes
 abbrev pub size_of : (first last : ℕ) → Option ℕ
 size_of first last = if last + 1 == ADDRESS_LIMIT then None else Some (last + 1 - first)
 
@@ -42,7 +42,7 @@ abbrev pub owner_name : Option ℕ → List ℕ
 owner_name None = codes "no entry"
 owner_name (Some entry) = codes "entry " ++ decimal entry
 
--- the strip in this place, in the colour of these rights
+-- the strip at this place, in the colour of these rights
 abbrev pub strip : (place : ℕ) → (rights : List ℕ) → List ℕ
 strip place rights =
     codes "<g class='su" ++ (rights ++ (codes "' transform='translate(0," ++ (decimal (BAND * place)
@@ -60,7 +60,7 @@ extent size owner =
     codes "<text x='292'>" ++ (size_name size ++ (codes "</text><text x='496'>" ++ (owner_name owner
     ++ codes "</text>")))
 
--- the rights of machine mode and of the others
+-- the rights of M-mode, and of S-mode and U-mode
 abbrev pub permissions : (machine others : List ℕ) → List ℕ
 permissions machine others =
     codes "<text x='592'>" ++ (machine ++ (codes "</text><text x='700'>" ++ (others ++ codes "</text>")))
@@ -76,13 +76,13 @@ abbrev pub lock_sign : RegisterFile → Option ℕ → List ℕ
 lock_sign file None = []
 lock_sign file (Some entry) = sign_of (lock_of file entry) (is_held file entry)
 
--- a band of these rights and with this sign
+-- a band with these rights and this sign
 abbrev pub drawn_band : (place : ℕ) → Run → (machine others sign : List ℕ) → List ℕ
 drawn_band place run machine others sign =
     strip place others ++ (ends run.first run.last ++ (extent (size_of run.first run.last) run.owner
     ++ (permissions machine others ++ (sign ++ (codes "</g>" ++ 10 ∷ [])))))
 
--- the band of the run in this place
+-- the band of the run at this place
 unfoldable pub band : RegisterFile → (place : ℕ) → Run → List ℕ
 band file place run =
     drawn_band place run (rights_text (owned_rights file run.owner M)) (rights_text (owned_rights file run.owner U))
@@ -90,7 +90,7 @@ band file place run =
 
 -- ---- the document
 
--- the first tag, with room for so many bands
+-- the first tag, with room for this many bands
 abbrev pub opening : (bands : ℕ) → List ℕ
 opening bands =
     let height = decimal (BAND * bands + 176) in
@@ -100,7 +100,7 @@ opening bands =
 abbrev pub title : (publications : ℕ) → List ℕ
 title publications = codes "PMP memory map, publications done: " ++ decimal publications
 
--- the title twice: for screen readers, and as it is drawn
+-- the title twice: for screen readers, and drawn
 abbrev pub spoken_title : (publications : ℕ) → List ℕ
 spoken_title publications = codes "<title>" ++ (title publications ++ (codes "</title>" ++ 10 ∷ []))
 
@@ -121,7 +121,7 @@ settings_line lockdown policy bypass =
 abbrev pub settings : MseccfgFields → List ℕ
 settings mseccfg = settings_line (switch_text mseccfg.mml) (switch_text mseccfg.mmwp) (switch_text mseccfg.rlb)
 
--- what stands above the bands
+-- everything above the bands
 unfoldable pub head : RegisterFile → (publications bands : ℕ) → List ℕ
 head file publications bands =
     opening bands ++ (spoken_title publications ++ (style ++ (large_title publications
@@ -131,7 +131,7 @@ head file publications bands =
 unfoldable pub bands : RegisterFile → List Run → List ℕ
 bands file runs = flat_map (λ (place, run). band file place run) (enumerate_from 0 runs)
 
--- the picture of the file's runs, of which there is one list
+-- the picture of the file's runs, of which there is only one list
 pub record IsPicture (file : RegisterFile) (publications : ℕ) (text : List ℕ) : Type 0 where
   pub runs : List Run
   pub runs_are : AreRuns file runs

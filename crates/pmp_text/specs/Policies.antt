@@ -40,7 +40,7 @@ demand_named word =
 abbrev pub kinds_named : List ℕ → Option Kinds
 kinds_named word = if bytes_eq word (codes "any") then Some Any else option_map (λ kind. One kind) (kind_named word)
 
--- how often a letter stands in a word
+-- how often a letter occurs in a word
 abbrev pub times : (letter : ℕ) → List ℕ → ℕ
 times letter word = count_by (λ byte. byte == letter) word
 
@@ -49,7 +49,7 @@ abbrev pub are_modes : List ℕ → Bool
 are_modes word = nat_lt 0 (length word) && (times 77 word + times 83 word + times 85 word == length word
     && (nat_le (times 77 word) 1 && (nat_le (times 83 word) 1 && nat_le (times 85 word) 1)))
 
--- the modes whose letters stand in the word
+-- the modes whose letters are in the word
 abbrev pub modes_named : List ℕ → Option Modes
 modes_named word =
     if are_modes word then Some (record {
@@ -69,19 +69,19 @@ same_kind Load Load = true
 same_kind Store Store = true
 same_kind _ _ = false
 
--- `any` is each of the three
+-- `any` is all three
 abbrev pub has_kind : Kinds → Kind → Bool
 has_kind (One one) kind = same_kind one kind
 has_kind Any kind = true
 
--- a number that is at least so large
+-- a number that is at least `least`
 abbrev pub at_least : (least : ℕ) → Option ℕ → Option ℕ
 at_least least None = None
 at_least least (Some number) = if nat_le least number then Some number else None
 
 -- ---- one row
 
--- the fields of a record that has seven
+-- a record's seven fields
 pub record SevenFields : Type 0 where
   pub from : List ℕ
   pub to : List ℕ
@@ -103,7 +103,7 @@ seven_fields (from ∷ to ∷ modes ∷ kind ∷ first ∷ last ∷ demand ∷ [
 })
 seven_fields _ = None
 
--- the fields of a record that has nine: those seven between a name and a comment
+-- a record's nine fields: those seven between a name and a comment
 pub record NineFields : Type 0 where
   pub name : List ℕ
   pub words : SevenFields
@@ -135,7 +135,7 @@ names_seven words = bytes_eq words.from (codes "from")
 abbrev pub is_plain_header : List (List ℕ) → Bool
 is_plain_header fields = elim (seven_fields fields) [ Some words ↦ names_seven words | None ↦ false ]
 
--- with a name before them, and a comment behind
+-- with a name before them, and a comment after them
 abbrev pub is_labeled_header : List (List ℕ) → Bool
 is_labeled_header fields = elim (nine_fields fields) [
   | Some all ↦
@@ -164,24 +164,24 @@ policy_fields row = record {
   is_bare = row.is_bare;
 }
 
--- what seven words say of moments: from which one to which
+-- the moments of seven words: from which one to which
 unfoldable pub moments_said : KnownMoments → SevenFields → Result Asked Flaw
 moments_said moments words =
     in_part 0 (moment_said moments words.from) (λ from. in_part 1 (to_said moments from words.to) (λ to.
     Ok (asked_between moments.publications from to)))
 
--- of accesses: modes and kinds
+-- their accesses: modes and kinds
 unfoldable pub accesses_said : SevenFields → Result (Modes × Kinds) Flaw
 accesses_said words =
     of_part 2 (modes_named words.modes) (λ modes. of_part 3 (kinds_named words.kind) (λ kinds. Ok (modes, kinds)))
 
--- of bytes: the first and the last
+-- their bytes: the first and the last
 unfoldable pub bytes_said : SevenFields → Result (ℕ × ℕ) Flaw
 bytes_said words =
     of_part 4 (word_number words.first) (λ first. of_part 5 (at_least first (word_number words.last)) (λ last.
     Ok (first, last)))
 
--- all that they say, and the demand
+-- all of these, and the demand
 unfoldable pub policy_of_fields : KnownMoments → SevenFields → Result PolicyFields Flaw
 policy_of_fields moments words =
     and_then (moments_said moments words) (λ asked. and_then (accesses_said words) (λ (modes, kinds).
@@ -210,7 +210,7 @@ policy_of_nine moments all =
     of_part NAME (label_said all.name) (λ name. and_then (policy_of_fields moments all.words) (λ row.
     of_part COMMENT (label_said all.comment) (λ comment. Ok row)))
 
--- what a record says as a row, perhaps with a name and a comment, or what of it says nothing
+-- a record read as a row, perhaps with a name and a comment, or which part of it is wrong
 abbrev pub policy_in : (labeled : Bool) → KnownMoments → List (List ℕ) → Result PolicyFields Flaw
 policy_in false moments fields =
     elim (seven_fields fields) [ Some words ↦ policy_of_fields moments words | None ↦ Err (as_whole BadRow) ]
@@ -220,20 +220,20 @@ policy_in true moments fields =
 abbrev pub policy_of_record : (labeled : Bool) → KnownMoments → List (List ℕ) → Option PolicyFields
 policy_of_record labeled moments fields = result_ok (policy_in labeled moments fields)
 
--- the fault of what a row says: more publications than there are, then a last byte that is none
+-- the fault of a row's values: more publications than there are, then a last byte beyond all addresses
 abbrev pub policy_fields_fault : (publications : ℕ) → PolicyFields → Option Flaw
 policy_fields_fault publications row =
     if nat_lt publications row.from then Some (part 0 BadAfter)
     else (if nat_lt publications row.to then Some (part 1 BadAfter)
     else (if nat_le ADDRESS_LIMIT row.last then Some (part 5 PastEnd) else None))
 
--- the same of fields that may end before they begin, of which the first fault is that they do
+-- the same for fields that may end before they begin, which is then the first fault
 abbrev pub proper_fields_fault : (publications : ℕ) → PolicyFields → Option Flaw
 proper_fields_fault publications row =
     if nat_lt row.to row.from then Some (part 1 BadRow)
     else (if nat_lt row.last row.first then Some (part 5 BadRow) else policy_fields_fault publications row)
 
--- the fault of a row, of which the first is that it says nothing
+-- the fault of a row; that it can't be read comes first
 abbrev pub policy_row_fault : (publications : ℕ) → Result PolicyFields Flaw → Option Flaw
 policy_row_fault publications (Err flaw) = Some flaw
 policy_row_fault publications (Ok row) = policy_fields_fault publications row
@@ -254,7 +254,7 @@ abbrev pub policy_rows_meaning : (labeled : Bool) → KnownMoments → List (Lis
 policy_rows_meaning labeled moments rows =
     fault_or_rows (first_policy_fault labeled moments 1 rows) (filter_map (policy_of_record labeled moments) rows)
 
--- what a text means as a policy beside a script with these moments
+-- what a text means as a policy for a script with these moments
 unfoldable pub policy_meaning : KnownMoments → List ℕ → Result (List PolicyFields) TraceFault
 policy_meaning moments text = within_limit
     (behind_header is_policy_header (policy_rows_meaning (is_labeled (records_of text)) moments)) text

@@ -10,21 +10,21 @@ use Rattle.pmp_text.specs.Tables.{records_of}
 use Rattle.pmp_text.specs.declared.trace.reader.TheConstants.{MAX_TRACE}
 use Rattle.pmp_text.specs.Flaws.{at_row}
 
--- the fault of the row with this index, by itself
+-- the fault of the row with this index alone
 abbrev pub policy_fault_at : (labeled : Bool) → (moments : KnownMoments) → List (List (List ℕ)) → (index : ℕ)
     → Option TraceFault
 policy_fault_at labeled moments rows index = option_and_then
     (λ row. option_map (at_row (index + 1)) (policy_row_fault moments.publications (policy_in labeled moments row)))
     (slice_get rows index)
 
--- the first fault is that of the least faulty row, and where there is none, no row is faulty
+-- the first fault is that of the first faulty row; if there is none, no row is faulty
 abbrev pub FirstPolicyFaultLaw : Type 0
 FirstPolicyFaultLaw = (labeled : Bool) (moments : KnownMoments) (rows : List (List (List ℕ)))
     → MatchOption (first_policy_fault labeled moments 1 rows)
     ((index : ℕ) → policy_fault_at labeled moments rows index ≡ None)
     (λ fault. IsLeastFault (policy_fault_at labeled moments rows) fault)
 
--- a text with a header that isn't too long is refused with the fault of its least faulty row, where it has one
+-- a text with a header that isn't too long is refused with the fault of its first faulty row, if it has one
 abbrev pub LeastPolicyFaultLaw : Type 0
 LeastPolicyFaultLaw = (moments : KnownMoments) (text : List ℕ) (header : List (List ℕ)) (rows : List (List (List ℕ)))
     (fault : TraceFault)

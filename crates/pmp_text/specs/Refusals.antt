@@ -1,4 +1,4 @@
--- What users read of a refusal.
+-- What users see of a refusal.
 use Rattle.std.specs.Prelude.{ℕ, List, ◌++◌, codes, decimal}
 use Rattle.pmp_core.specs.declared.access.AccessFault.{AccessFault}
 use Rattle.pmp_core.specs.declared.access.AccessFault.TheVariants as access
@@ -98,7 +98,7 @@ name_of TooFine = codes "TooFine"
 name_of FewEntries = codes "FewEntries"
 name_of Stopped = codes "Stopped"
 
--- the program's exit status: 3 where memory, input, output or a shared unit failed, and else 2
+-- the program's exit status: 3 if memory, input, output or a shared unit failed, else 2
 abbrev pub status_of : Refusal → ℕ
 status_of NoPlace = 3
 status_of Moved = 3
@@ -111,7 +111,7 @@ status_of _ = 2
 abbrev pub refusal_text : Refusal → List ℕ
 refusal_text refusal = decimal (number_of refusal) ++ (codes " " ++ name_of refusal)
 
--- an access is refused by the same name
+-- an access's refusal has the same name
 abbrev pub refusal_of_access : AccessFault → Refusal
 refusal_of_access access.BadLength = BadLength
 refusal_of_access access.PastEnd = PastEnd

@@ -36,16 +36,16 @@ abbrev pub optional_text : Option ℕ → List ℕ
 optional_text None = []
 optional_text (Some number) = decimal number
 
--- each further field after a comma, and LF at the end
+-- each field after a comma, and LF at the end
 abbrev pub fields_after : List (List ℕ) → List ℕ
 fields_after [] = 10 ∷ []
 fields_after (field ∷ rest) = codes "," ++ (field ++ fields_after rest)
 
--- each field behind a comma
+-- each field after a comma
 abbrev pub fields_before : List (List ℕ) → List ℕ
 fields_before fields = flat_map (λ field. codes "," ++ field) fields
 
--- the row of an access with this number
+-- the row for the access with this number
 unfoldable pub report_row : ℕ → Access → Decision → List ℕ
 report_row number access decision =
     decimal number
@@ -54,7 +54,7 @@ report_row number access decision =
 
 -- ---- a whole report
 
--- the register file that these publications give, from the one before them on
+-- the register file after these publications, starting from this file
 abbrev pub file_behind : (start : RegisterFile) → List (List Event) → RegisterFile
 file_behind start batches = fold step start (joined batches)
 
@@ -62,7 +62,7 @@ file_behind start batches = fold step start (joined batches)
 abbrev pub file_of_script : ScriptContents → (done : ℕ) → RegisterFile
 file_of_script script done = file_behind script.start (take done script.batches)
 
--- a decision for each row, each the manual's in the file after the publications that the row asks for (3.7.1.3)
+-- a decision for each row, the manual's in the file after the publications that the row asks for (3.7.1.3)
 abbrev pub AreDecided : ScriptContents → List Row → List Decision → Type 0
 AreDecided script rows decisions =
     AllZip (λ row decision. IsDecision (file_of_script script row.after) row.access decision) rows decisions

@@ -1,4 +1,4 @@
--- Reading the rows of a trace one after the other.
+-- Reading the rows of a trace one by one.
 use Rattle.std.specs.Prelude.{◌≡◌, ℕ, ◌+◌, ◌^◌, ◌<◌, ◌≤◌, List, ◌∷◌, Some, None, Ok, if◌then◌else◌}
 use Rattle.std.specs.Option.{option_or}
 use Rattle.pmp_text.specs.declared.trace.Row.{Row}
@@ -7,13 +7,13 @@ use Rattle.pmp_text.specs.LongTraces.{Records}
 use Rattle.pmp_text.specs.Moments.{KnownMoments}
 use Rattle.pmp_text.specs.Traces.{row_fault, row_fields, row_in}
 
--- the records that rows are still read from, beside a script with these moments, and where they stand
+-- the records that rows are still read from, for a script with these moments, and their place
 pub record RowsLeft : Type 0 where
   pub records : Records
   pub moments : KnownMoments
   pub place : Place
 
--- the place behind a row that stands at a place
+-- the place after a row at this place
 abbrev pub place_after : Place → Row → Place
 place_after place row = record {
   begun = place.begun;
@@ -22,7 +22,7 @@ place_after place row = record {
   bare = option_or place.bare (if row.is_bare then Some place.next else None);
 }
 
--- the row is what the next record says, it has no fault where it stands, and the others stand behind it
+-- the row is the next record's, it has no fault at its place, and the others follow it
 pub record IsNextRow (before : RowsLeft) (row : Row) (after : RowsLeft) : Type 0 where
   pub fields : List (List ℕ)
   pub next : before.records ≡ fields ∷ after.records
@@ -32,7 +32,7 @@ pub record IsNextRow (before : RowsLeft) (row : Row) (after : RowsLeft) : Type 0
   pub place : after.place ≡ place_after before.place row
   pub numbered : before.place.next + 1 < 2 ^ 64
 
--- the next record says a row without a fault, whose number would be 2^64 - 1 or more
+-- the next record is a row without a fault, whose number would be 2^64 - 1 or more
 pub record IsOutOfNumbers (before : RowsLeft) : Type 0 where
   pub fields : List (List ℕ)
   pub behind : Records

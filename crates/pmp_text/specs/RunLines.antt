@@ -15,7 +15,7 @@ use Rattle.pmp_text.specs.Reports.{fields_after}
 abbrev pub mark : (letter : ℕ) → Bool → ℕ
 mark letter given = if given then letter else 45
 
--- `r`, `w` and `x`, each where it is given
+-- `r`, `w` and `x`, each if it is given
 abbrev pub rights_text : Rights → List ℕ
 rights_text rights = mark 114 rights.read ∷ mark 119 rights.write ∷ mark 120 rights.execute ∷ []
 
@@ -24,7 +24,7 @@ abbrev pub owner_text : Option ℕ → List ℕ
 owner_text None = codes "-"
 owner_text (Some entry) = decimal entry
 
--- the first and the last byte in fourteen digits, the owner, and the rights of machine mode and of the other modes
+-- the first and the last byte in fourteen digits, the owner, and the rights of M-mode and of S-mode and U-mode
 unfoldable pub run_line : RegisterFile → Run → List ℕ
 run_line file run =
     hex_text ADDRESS_DIGITS run.first
@@ -32,7 +32,7 @@ run_line file run =
     ∷ rights_text (owned_rights file run.owner M)
     ∷ rights_text (owned_rights file run.owner U) ∷ [])
 
--- a line for each of the file's runs, of which there is one list
+-- a line for each of the file's runs, of which there is only one list
 pub record IsMapText (file : RegisterFile) (text : List ℕ) : Type 0 where
   pub runs : List Run
   pub runs_are : AreRuns file runs

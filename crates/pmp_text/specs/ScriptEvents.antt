@@ -1,4 +1,4 @@
--- What the lines of a script add: events and publications, a head, what is expected, and names of moments.
+-- What the lines of a script add: events and publications, a head, expectations, and names of moments.
 use Rattle.std.specs.Prelude.{ℕ, ◌+◌, List, [], ◌∷◌, ◌++◌, map, filter_map, find, Bool, true, false, Option, Some, None}
 use Rattle.std.specs.Prelude.{Result, Ok, Err, is_some, option_map}
 use Rattle.std.specs.List.{slice_split}
@@ -26,7 +26,7 @@ event_in (Err flaw) = None
 abbrev pub event_of : Version → Line → Option Event
 event_of version line = event_in (said_by version line)
 
--- the number of a line that adds one
+-- the number of a line that adds an event
 abbrev pub event_line_of : Version → Line → Option ℕ
 event_line_of version line = option_map (λ _. line.number) (event_of version line)
 
@@ -51,7 +51,7 @@ last_piece [] = []
 last_piece (piece ∷ []) = piece
 last_piece (piece ∷ next ∷ more) = last_piece (next ∷ more)
 
--- the publications: the events of the pieces between `publish` lines, but of the last piece
+-- the publications: the events of the pieces between `publish` lines, except the last piece
 abbrev pub publications : Version → List Line → Publications
 publications version lines =
     let pieces = but_last (slice_split (is_publish version) lines) in
@@ -60,7 +60,7 @@ publications version lines =
       lines = map (filter_map (event_line_of version)) pieces;
     }
 
--- the number of the first event line behind the last `publish`
+-- the number of the first event line after the last `publish`
 abbrev pub first_unpublished : Version → List Line → Option ℕ
 first_unpublished version lines =
     option_map (λ line. line.number)
@@ -78,7 +78,7 @@ head_line_in number (Err flaw) = None
 abbrev pub head_lines : Version → List Line → List HeadLine
 head_lines version lines = filter_map (λ line. head_line_in line.number (said_by version line)) lines
 
--- what these lines expect, behind so many events
+-- what these lines expect, after `events` events
 abbrev pub expected_by : (events number : ℕ) → Result Statement Flaw → (later : ℕ → List Expectation)
     → List Expectation
 expected_by events number (Ok (statement.Event event)) later = later (events + 1)
@@ -94,12 +94,12 @@ expected_from version events [] = []
 expected_from version events (line ∷ more) =
     expected_by events line.number (said_by version line) (λ events. expected_from version events more)
 
--- a moment behind so many publications, where it has a name
+-- a moment after `done` publications, if it has a name
 abbrev pub mark_at : Option Name → (done : ℕ) → List Mark
 mark_at None done = []
 mark_at (Some name) done = record { name = name; done = done } ∷ []
 
--- the moments that these lines name, behind so many publications
+-- the moments that these lines name, after `done` publications
 abbrev pub marks_by : (done : ℕ) → Result Statement Flaw → (later : ℕ → List Mark) → List Mark
 marks_by done (Ok (statement.Event event)) later = later done
 marks_by done (Ok (statement.Publish name)) later = mark_at name (done + 1) ++ later (done + 1)

@@ -1,4 +1,4 @@
--- What is wrong with a line of a script, by the lines before it.
+-- What is wrong with a line of a script, given the lines before it.
 use Rattle.std.specs.Prelude.{ℕ, ◌+◌, List, [], ◌∷◌, length, filter, filter_map, Bool, true, false, Option, Some, None}
 use Rattle.std.specs.Prelude.{Result, Ok, Err, is_some, option_map, nat_lt, if◌then◌else◌}
 use Rattle.std.specs.List.{list_any}
@@ -20,7 +20,7 @@ use Rattle.pmp_text.specs.ScriptLines.{Line, said_by, version_named, version_fla
 use Rattle.pmp_text.specs.ScriptEvents.{event_of, is_publish}
 use Rattle.pmp_text.specs.declared.script.statement.Statement.TheVariants as statement
 
--- one event line more, or none since a `publish`
+-- one more event line, or none since a `publish`
 abbrev pub counted : Result Statement Flaw → ℕ → ℕ
 counted (Ok (statement.Event event)) count = count + 1
 counted (Ok (statement.Publish name)) count = 0
@@ -29,12 +29,12 @@ counted (Ok (statement.Head says)) count = count
 counted (Ok (statement.Expect register value)) count = count
 counted (Err flaw) count = count
 
--- how many event lines stand since the last `publish`, from the nearest line back
+-- the number of event lines since the last `publish`, from the nearest line back
 abbrev pub open_events : Version → List Line → ℕ
 open_events version [] = 0
 open_events version (line ∷ before) = counted (said_by version line) (open_events version before)
 
--- how many events, and how many publications, these lines add
+-- the numbers of events, and of publications, that these lines add
 abbrev pub all_events : Version → List Line → ℕ
 all_events version before = length (filter_map (event_of version) before)
 
@@ -53,7 +53,7 @@ ends_head (Err flaw) = false
 abbrev pub is_over : Version → List Line → Bool
 is_over version before = list_any (λ line. ends_head (said_by version line)) before
 
--- a line says the same of the hart, or sets the same register
+-- a line gives the same field of the hart, or sets the same register
 abbrev pub says_same : HeadStatement → Result Statement Flaw → Bool
 says_same says (Ok (statement.Event event)) = false
 says_same says (Ok (statement.Publish name)) = false
@@ -78,7 +78,7 @@ names_same name (Err flaw) = false
 abbrev pub is_marked : Version → List Line → Name → Bool
 is_marked version before name = list_any (λ line. names_same name (said_by version line)) before
 
--- whether XLEN is 32, as the lines before say, from the nearest back
+-- whether XLEN is 32 by the lines before, from the nearest back
 abbrev pub rv32_behind : Result Statement Flaw → Bool → Bool
 rv32_behind (Ok (statement.Event event)) before = before
 rv32_behind (Ok (statement.Publish name)) before = before
@@ -91,16 +91,16 @@ abbrev pub is_rv32 : Version → List Line → Bool
 is_rv32 version [] = false
 is_rv32 version (line ∷ before) = rv32_behind (said_by version line) (is_rv32 version before)
 
--- a line of the head is at fault where the head is over, or the same was said, or there is no such hart
+-- a line of the head is at fault if the head is over, or the same was given, or there is no such hart
 abbrev pub head_fault : (over said : Bool) → HeadStatement → Option Flaw
 head_fault over said says = if over then Some (as_whole LateHead) else (if said then Some (part 1 Twice) else own_fault says)
 
--- a name is at fault that was given before, and a `mark` behind events that aren't published
+-- a name that was given before is at fault, and a `mark` after unpublished events
 abbrev pub name_fault : (marked : Name → Bool) → Option Name → Option Flaw
 name_fault marked None = None
 name_fault marked (Some name) = if marked name then Some (part 1 Twice) else None
 
--- a publication too many
+-- one publication too many
 abbrev pub publish_fault : (marked : Name → Bool) → Option Name → (all : ℕ) → Option Flaw
 publish_fault marked name all =
     option_or (name_fault marked name) (if nat_lt all MAX_EVENTS then None else Some (as_whole TooMany))
@@ -109,16 +109,16 @@ abbrev pub mark_fault : (count : ℕ) → (marked : Bool) → Option Flaw
 mark_fault count marked =
     if nat_lt 0 count then Some (as_whole OpenMark) else (if marked then Some (part 1 Twice) else None)
 
--- an event is at fault where the hart doesn't have what it writes, or as many are open before it as a batch holds, or
--- as many stand before it as a script has
+-- an event is at fault if the hart doesn't have what it writes, or as many are open before it as a batch may have, or
+-- there are as many before it as a script may have
 abbrev pub event_fault : Option Flaw → (unpublished all : ℕ) → Option Flaw
 event_fault (Some flaw) unpublished all = Some flaw
 event_fault None unpublished all =
     if nat_lt unpublished BATCH_EVENTS then (if nat_lt all MAX_EVENTS then None else Some (as_whole TooMany))
     else Some (as_whole BatchFull)
 
--- what lines before say of one: which events are at fault, how many aren't published and how many there are, how many
--- publications, whether the head is over, and what was said and which names were given
+-- what the lines before give: the fault of an event, the numbers of unpublished events, of events and of publications,
+-- whether the head is over, and what was given and which names
 pub record Behind : Type 0 where
   pub of_event : Event → Option Flaw
   pub unpublished : ℕ
@@ -128,7 +128,7 @@ pub record Behind : Type 0 where
   pub said : HeadStatement → Bool
   pub marked : Name → Bool
 
--- a line that is no statement is at fault by itself
+-- a line that is no statement is at fault itself
 abbrev pub statement_fault : Behind → Result Statement Flaw → Option Flaw
 statement_fault behind (Err flaw) = Some flaw
 statement_fault behind (Ok (statement.Publish name)) = publish_fault behind.marked name behind.publications

@@ -1,4 +1,4 @@
--- The lines of a script that count, and the version that the first one names.
+-- The significant lines of a script, and the version that the first one names.
 use Rattle.std.specs.Prelude.{ℕ, ◌+◌, List, [], ◌∷◌, filter, Bool, false, not, ◌==◌, Option, Some, None, Result}
 use Rattle.std.specs.Prelude.{is_some, codes, bytes_eq, slice_index, unwrap_or, if◌then◌else◌}
 use Rattle.pmp_core.specs.declared.size.Size.TheVariants.{Sixteen, SixtyFour}
@@ -11,7 +11,7 @@ use Rattle.pmp_text.specs.Lines.{words, lines}
 use Rattle.pmp_text.specs.Statements.{has_rv32, statement_of}
 use Rattle.pmp_text.specs.Flaws.{part, as_whole}
 
--- a line with its number in the text, and what it says where it isn't its words that say it: a write that stands for a
+-- a line with its number in the text, and its meaning if that isn't its words': a write that replaces a
 -- shorthand
 pub record Line : Type 0 where
   pub number : ℕ
@@ -22,13 +22,13 @@ unfoldable pub said_by : Version → Line → Result Statement Flaw
 said_by (Sized size) line = statement_of (Sized size) line.words
 said_by Headed line = unwrap_or line.stands_for (statement_of Headed line.words)
 
--- the lines with their numbers, the first of which is given
+-- the lines with their numbers, from `number` on
 abbrev pub numbered_from : ℕ → List (List ℕ) → List Line
 numbered_from number [] = []
 numbered_from number (line ∷ more) =
     record { number = number; words = words line; stands_for = None } ∷ numbered_from (number + 1) more
 
--- a line counts where it has a word, and the first one doesn't begin with `#`
+-- a line is significant if it has a word, and the first one doesn't begin with `#`
 abbrev pub counts : List (List ℕ) → Bool
 counts [] = false
 counts (word ∷ more) = not (slice_index word 0 == 35)
@@ -48,12 +48,12 @@ version_numbered number =
     else (if bytes_eq number (codes "2") then Some (Sized SixtyFour)
     else (if bytes_eq number (codes "3") then Some Headed else None))
 
--- the first significant line has the words `pmp` and the number of a version
+-- the version that the words `pmp` and a number name
 unfoldable pub version_named : List (List ℕ) → Option Version
 version_named (name ∷ number ∷ []) = if bytes_eq name (codes "pmp") then version_numbered number else None
 version_named _ = None
 
--- what makes the words no version: a first one that isn't `pmp`, or a second that is no version's number, or a third
+-- why the words are no version: the first isn't `pmp`, the second isn't a version's number, or there is a third
 abbrev pub version_flaw : List (List ℕ) → Flaw
 version_flaw [] = as_whole BadVersion
 version_flaw (name ∷ []) = if bytes_eq name (codes "pmp") then as_whole BadVersion else part 0 BadVersion
@@ -67,7 +67,7 @@ version_above [] = Sized Sixteen
 version_above (line ∷ []) = unwrap_or (version_named line.words) (Sized Sixteen)
 version_above (line ∷ next ∷ before) = version_above (next ∷ before)
 
--- the version that the first of these lines names is 3
+-- the first of these lines names version 3
 abbrev pub is_headed_by : List Line → Bool
 is_headed_by [] = false
 is_headed_by (first ∷ more) = elim (version_named first.words) [
@@ -75,6 +75,6 @@ is_headed_by (first ∷ more) = elim (version_named first.words) [
   | None ↦ false
 ]
 
--- the text is a script of version 3, or refused behind its version
+-- the text is a script of version 3, or refused after its version
 abbrev pub is_headed : List ℕ → Bool
 is_headed text = is_headed_by (significant_lines text)

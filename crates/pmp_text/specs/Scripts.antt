@@ -1,4 +1,4 @@
--- What a script means: where its unit begins, its publications and what it expects, or its fault.
+-- What a script means: the start of its unit, its publications and what it expects, or its fault.
 use Rattle.std.specs.Prelude.{ℕ, List, [], ◌∷◌, length, Option, Some, None, Result, Ok, Err, nat_lt, if◌then◌else◌}
 use Rattle.pmp_core.specs.declared.size.Size.{Size}
 use Rattle.pmp_core.specs.Hart.{profile_of}
@@ -19,13 +19,13 @@ use Rattle.pmp_text.specs.ScriptFaults.{first_fault}
 use Rattle.pmp_text.specs.ScriptEvents.{publications, first_unpublished, head_lines, expected_from, marks_from}
 use Rattle.pmp_text.specs.Longhand.{meant_lines}
 
--- the fault of a line comes first, then events that are never published
+-- a line's fault comes first, then events that are never published
 abbrev pub fault_or_publications : {X : Type 0} → Option ScriptFault → Option ℕ → X → Result X ScriptFault
 fault_or_publications (Some fault) unpublished published = Err fault
 fault_or_publications None (Some number) published = Err (at_line number (as_whole Unpublished))
 fault_or_publications None None published = Ok published
 
--- these publications are for the usual hart of this size, from its reset on
+-- these publications are for the usual hart of this size, from reset on
 abbrev pub for_unit : Size → Result Publications ScriptFault → Result ScriptContents ScriptFault
 for_unit size (Ok published) = Ok (record {
   size = size;
@@ -37,7 +37,7 @@ for_unit size (Ok published) = Ok (record {
 })
 for_unit size (Err fault) = Err fault
 
--- these publications are for the hart of a head, from the registers on that it sets
+-- these publications are for the hart of a head, from the registers that it sets
 abbrev pub for_head : List HeadLine → List Expectation → List Mark → Result Publications ScriptFault
     → Result ScriptContents ScriptFault
 for_head head expectations marks (Ok published) = elim (started head expectations) [
@@ -53,12 +53,12 @@ for_head head expectations marks (Ok published) = elim (started head expectation
 ]
 for_head head expectations marks (Err fault) = Err fault
 
--- what lines publish behind the one that names their version
+-- what the lines after the version line publish
 abbrev pub published_behind : Line → List Line → Version → Result Publications ScriptFault
 published_behind first more version =
     fault_or_publications (first_fault (first ∷ []) more) (first_unpublished version more) (publications version more)
 
--- what lines mean behind a line that names a version, or none
+-- what the lines mean after a line that names a version, or doesn't
 abbrev pub meaning_behind : Line → List Line → Option Version → Result ScriptContents ScriptFault
 meaning_behind first more None = Err (at_line first.number (version_flaw first.words))
 meaning_behind first more (Some (Sized size)) = for_unit size (published_behind first more (Sized size))
@@ -66,16 +66,16 @@ meaning_behind first more (Some Headed) =
     for_head (head_lines Headed more) (expected_from Headed 0 more) (marks_from Headed 0 more)
     (published_behind first more Headed)
 
--- the first line is the version; the head and publications stand behind it
+-- the first line is the version; the head and the publications follow it
 abbrev pub lines_meaning : List Line → Result ScriptContents ScriptFault
 lines_meaning [] = Err (at_line 1 (as_whole BadVersion))
 lines_meaning (version ∷ more) = meaning_behind version more (version_named version.words)
 
--- the most bytes of a text: more where it is of version 3
+-- the most bytes of a text: more for version 3
 abbrev pub most_bytes : List ℕ → ℕ
 most_bytes text = if is_headed text then MAX_HEADED_SCRIPT else MAX_SCRIPT
 
--- what a text means, each shorthand as the writes that it stands for; one of more bytes is too long, whatever it says
+-- what a text means, with each shorthand as its writes; one of more bytes is too long, whatever is in it
 unfoldable pub script_meaning : List ℕ → Result ScriptContents ScriptFault
 script_meaning text =
     if nat_lt (most_bytes text) (length text) then Err (at_line 0 (as_whole TooLong))

@@ -1,4 +1,4 @@
--- Lines of version 3 that stand for writes, whose values the registers there decide.
+-- Lines of version 3 that stand for writes, whose values depend on the registers at that line.
 use Rattle.std.specs.Prelude.{ℕ, zero, suc, ◌+◌, ◌-◌, ◌/◌, ◌%◌, ◌^◌, List, [], ◌∷◌, Bool, not, ◌&&◌, ◌==◌, codes}
 use Rattle.std.specs.Prelude.{Option, Some, None, Result, Ok, Err, bytes_eq, nat_lt, nat_le, slice_set, bit_and, bit_or}
 use Rattle.std.specs.Prelude.{if◌then◌else◌}
@@ -30,7 +30,7 @@ use Rattle.pmp_text.specs.Heads.{kept_value}
 use Rattle.pmp_text.specs.Numbers.{word_number}
 use Rattle.pmp_text.specs.Statements.{assignment}
 
--- ---- what a line says of an entry
+-- ---- a line about an entry
 
 abbrev pub number_said : List ℕ → Result ℕ Refusal
 number_said word = elim (word_number word) [ Some number ↦ Ok number | None ↦ Err BadNumber ]
@@ -61,7 +61,7 @@ rights_said word =
     else (if bytes_eq word (codes "-wx") then Ok 6
     else (if bytes_eq word (codes "rwx") then Ok 7 else Err BadLine)))))))
 
--- L in bit 7, where a last word says so
+-- L in bit 7, if a last word asks for it
 abbrev pub lock_said : List (List ℕ) → Result ℕ Flaw
 lock_said [] = Ok 0
 lock_said (word ∷ []) = if bytes_eq word (codes "L") then Ok 128 else Err (part 6 BadLine)
@@ -74,19 +74,19 @@ matching_bits Tor = 8
 matching_bits Na4 = 16
 matching_bits Napot = 24
 
--- so many bytes at a multiple of so many: the word address has a zero bit above size / 8 - 1 (3.7.1.1, NAPOT)
+-- `size` bytes at a multiple of `size`: the word address has a zero bit above size / 8 - 1 (3.7.1.1, NAPOT)
 abbrev pub aligned_place : (first size : ℕ) → Result Place Flaw
 aligned_place first size =
     if first % size == 0 && nat_le (first + size) ADDRESS_LIMIT
     then Ok (record { address = first / 4 + (size / 8 - 1); low = None }) else Err (part 3 BadEntry)
 
--- from where the entry before it ends
+-- from where the entry before ends
 abbrev pub tor_place : (first end : ℕ) → Result Place Flaw
 tor_place first end =
     if not (end % 4 == 0 && nat_lt first end && nat_lt end ADDRESS_LIMIT) then Err (part 4 BadEntry)
     else (if first % 4 == 0 then Ok (record { address = end / 4; low = Some (first / 4) }) else Err (part 3 BadEntry))
 
--- where an entry matches of which a line says its first byte, and its size, or for `tor` the byte behind its last
+-- where an entry matches, by its first byte, and its size, or for `tor` the byte after its last
 abbrev pub place_said : AddressMatching → (first second : ℕ) → Result Place Flaw
 place_said Off first second = Err (part 2 BadLine)
 place_said Tor first second = tor_place first second
@@ -98,13 +98,13 @@ unfoldable pub place_words : AddressMatching → (first second : List ℕ) → R
 place_words matching first second =
     in_part 3 (number_said first) (λ first. in_part 4 (number_said second) (λ second. place_said matching first second))
 
--- which entry it is, and its rights with its lock; the form is at fault before the number
+-- the entry's number, and its rights with its lock; faults of form come before that of the number
 unfoldable pub rule_said : (number rights : List ℕ) → (lock : List (List ℕ)) → Result (ℕ × ℕ) Flaw
 rule_said number rights lock =
     and_then (lock_said lock) (λ lock. in_part 5 (rights_said rights) (λ rights. in_part 1 (entry_said number) (λ number.
     Ok (number, lock + rights))))
 
--- `entry` I and what it matches, with its rights, and its lock if there is one
+-- `entry` I and what it matches, with its rights, and its lock, if any
 abbrev pub range_said : (number matching : List ℕ) → List (List ℕ) → Result EntryLine Flaw
 range_said number matching (first ∷ second ∷ rights ∷ lock) =
     in_part 2 (matching_said matching) (λ matching. and_then (rule_said number rights lock) (λ rule.
@@ -115,7 +115,7 @@ range_said number matching (first ∷ second ∷ rights ∷ lock) =
     }))))
 range_said number matching _ = in_part 2 (matching_said matching) (λ _. Err (as_whole BadLine))
 
--- an entry that is off has no right and no lock
+-- an entry that is OFF has no rights and no lock
 abbrev pub off_said : (number : List ℕ) → List (List ℕ) → Result EntryLine Flaw
 off_said number [] = in_part 1 (entry_said number) (λ number. Ok (record {
   number = number;
@@ -129,7 +129,7 @@ entry_line (number ∷ matching ∷ operands) =
     if bytes_eq matching (codes "off") then off_said number operands else range_said number matching operands
 entry_line _ = Err (as_whole BadLine)
 
--- ---- what a line says
+-- ---- what a line means
 
 abbrev pub bits_line : (Csr → ℕ → Shorthand) → List (List ℕ) → Result Shorthand Flaw
 bits_line bits operands = and_then (assignment Headed operands) (λ assigned. Ok (bits assigned.0 assigned.1))
@@ -144,25 +144,25 @@ shorthand_of (word ∷ operands) =
 
 -- ---- what it stands for
 
--- the write of its register with an entry's byte, and the bytes of the others as they read
+-- the write of the register with an entry's byte, with the other entries' bytes as they read
 abbrev pub byte_write : RegisterFile → (number byte : ℕ) → Event
 byte_write file number byte =
     let bytes = bytes_in file.profile 0 in
     let csr = cfg_at file.profile (number / bytes) in
     Write csr (from_le_bytes w64 (slice_set (to_le_bytes w64 (register_value file csr)) (number % bytes) byte))
 
--- the word address at which a top of range begins (3.7.1.1)
+-- the word address at which a TOR range begins (3.7.1.1)
 abbrev pub low_end : RegisterFile → (number : ℕ) → ℕ
 low_end file zero = 0
 low_end file (suc before) = tor_address file.profile.grain (kept_value file (Addr before))
 
--- it begins where it has to, and the register has all bits of its address
+-- it begins where it must, and the register has all bits of its address
 abbrev pub can_stand : RegisterFile → (number : ℕ) → Place → Bool
 can_stand file number place =
     elim place.low [ Some low ↦ low == low_end file number | None ↦ Bool.true ]
     && not (file.profile.is_rv32 && nat_le (2 ^ 32) place.address)
 
--- an entry's address is written, where it has one, and then its byte
+-- an entry's address is written, if it has one, and then its byte
 abbrev pub entry_writes : RegisterFile → EntryLine → Result Writes Flaw
 entry_writes file line =
     let byte = byte_write file line.number line.configuration in
@@ -174,8 +174,8 @@ entry_writes file line =
           else Err (part 3 BadEntry)
     ]
 
--- the writes of a line in this file: as CSRRS and CSRRC make them, with the bits of a value set, or cleared, in what
--- the register reads
+-- the writes of a line in this file: as CSRRS and CSRRC make them, with the bits of a value set or cleared in what the
+-- register reads
 abbrev pub writes_of : RegisterFile → Shorthand → Result Writes Flaw
 writes_of file (SetBits csr value) =
     Ok (record { address = None; last = Write csr (bit_or (register_value file csr) value) })

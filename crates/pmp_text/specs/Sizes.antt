@@ -1,15 +1,15 @@
--- How much a script says.
+-- How large a script is.
 use Rattle.std.specs.Prelude.{◌≡◌, ℕ, ◌≤◌, List, length, map, sum_by, Ok}
 use Rattle.pmp_core.specs.declared.event.Event.{Event}
 use Rattle.pmp_text.specs.Scripts.{script_meaning}
 use Rattle.pmp_text.specs.Contents.{ScriptContents}
 use Rattle.pmp_text.specs.declared.script.reader.TheConstants.{MAX_EVENTS}
 
--- how many events there are
+-- the number of events
 abbrev pub events_in : List (List Event) → ℕ
 events_in batches = sum_by (λ batch. length batch) batches
 
--- a script has no more events, and no more publications, than the limit says
+-- a script has no more events, and no more publications, than the limit
 pub record IsInLimits (batches : List (List Event)) : Type 0 where
   pub events : events_in batches ≤ MAX_EVENTS
   pub publications : length batches ≤ MAX_EVENTS

@@ -1,4 +1,4 @@
--- What one line of a script says.
+-- What one line of a script means.
 use Rattle.std.specs.Prelude.{ℕ, List, [], ◌∷◌, Bool, true, false, ◌==◌, Option, Some, None, Result, Ok, Err, codes}
 use Rattle.std.specs.Prelude.{bytes_eq, nat_lt, position, if◌then◌else◌}
 use Rattle.pmp_core.specs.declared.csr.Csr.{Csr}
@@ -22,7 +22,7 @@ use Rattle.pmp_text.specs.Flaws.{part, as_whole}
 
 -- ---- a register and a value
 
--- two operands; at fault is the first one too many, or the line that lacks one
+-- two operands; at fault is the first extra one, or the whole line if one is missing
 abbrev pub two_of : List (List ℕ) → Result (List ℕ × List ℕ) Flaw
 two_of (name ∷ value ∷ []) = Ok (name, value)
 two_of (name ∷ value ∷ word ∷ more) = Err (part 3 BadLine)
@@ -34,7 +34,7 @@ assigned (Err kind) value = Err (part 1 kind)
 assigned (Ok csr) None = Err (part 2 BadNumber)
 assigned (Ok csr) (Some value) = Ok (csr, value)
 
--- versions 1 and 2 are of RV64; which of the registers of RV32 a hart of version 3 has, its head says
+-- versions 1 and 2 are for RV64; in version 3 the head decides which registers of RV32 the hart has
 abbrev pub has_rv32 : Version → Bool
 has_rv32 (Sized size) = false
 has_rv32 Headed = true
@@ -66,14 +66,14 @@ expect_statement operands = elim (assignment Headed operands) [
 
 -- ---- the hart
 
--- a number below 256; a larger one is of this kind
+-- a number below 256; a larger one is refused as `kind`
 abbrev pub byte_number : Refusal → List ℕ → Result ℕ Refusal
 byte_number kind word = elim (word_number word) [
   | Some number ↦ if nat_lt number 256 then Ok number else Err kind
   | None ↦ Err BadNumber
 ]
 
--- G of a grain in bytes, which is one of those that there are
+-- G for a grain in bytes, which must be one of those possible
 abbrev pub grain_number : List ℕ → Result ℕ Refusal
 grain_number word = elim (word_number word) [
   | Some number ↦ elim (position (λ grain. grain == number) GRAINS) [ Some place ↦ Ok place | None ↦ Err BadGrain ]
@@ -105,7 +105,7 @@ field_named name value =
     else (if bytes_eq name (codes "smepmp") then Some (smepmp_field value)
     else (if bytes_eq name (codes "xlen") then Some (xlen_field value) else None))))
 
--- what is at fault is the value, or else the name
+-- the value is at fault, or else the name
 abbrev pub field_of : (name value : List ℕ) → Result HartField Flaw
 field_of name value = elim (field_named name value) [
   | Some (Ok field) ↦ Ok field
@@ -127,18 +127,18 @@ abbrev pub without_operands : Statement → List (List ℕ) → Result Statement
 without_operands statement [] = Ok statement
 without_operands statement (word ∷ more) = Err (part 1 BadLine)
 
--- a moment's name, or none, and no more
+-- a moment's name, or none, and nothing else
 abbrev pub name_of : List (List ℕ) → Result (Option Name) Flaw
 name_of [] = Ok None
 name_of (word ∷ []) = elim (name_said word) [ Some name ↦ Ok (Some name) | None ↦ Err (part 1 BadMark) ]
 name_of (word ∷ next ∷ more) = Err (part 2 BadLine)
 
--- `publish` may name the moment behind it in version 3
+-- in version 3 `publish` may name the moment after it
 abbrev pub publish_statement : Version → List (List ℕ) → Result Statement Flaw
 publish_statement (Sized size) operands = without_operands (statement.Publish None) operands
 publish_statement Headed operands = elim (name_of operands) [ Ok name ↦ Ok (statement.Publish name) | Err flaw ↦ Err flaw ]
 
--- `mark` names the moment where it stands
+-- `mark` names the moment here
 abbrev pub mark_statement : List (List ℕ) → Result Statement Flaw
 mark_statement operands = elim (name_of operands) [
   | Ok (Some name) ↦ Ok (statement.Mark name)

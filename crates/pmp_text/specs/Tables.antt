@@ -1,4 +1,4 @@
--- Texts of rows behind a header, as traces and policies are.
+-- Texts of rows after a header, such as traces and policies.
 use Rattle.std.specs.Prelude.{ℕ, List, [], ◌∷◌, length, Bool, Option, Some, None, Result, Ok, Err}
 use Rattle.std.specs.Prelude.{nat_lt, if◌then◌else◌, ◌==◌, ◌||◌}
 use Rattle.std.specs.List.{list_any}
@@ -17,16 +17,16 @@ records_of text = records default_config (strip_bom text)
 abbrev pub is_line_end : ℕ → Bool
 is_line_end byte = (byte == 13) || (byte == 10)
 
--- a field has a line end, so that the record goes over several lines
+-- a field has a line end, so the record spans several lines
 abbrev pub is_broken : List (List ℕ) → Bool
 is_broken fields = list_any (λ field. list_any is_line_end field) fields
 
--- a fault of a row, else what the rows say
+-- a row's fault, or else what the rows mean
 abbrev pub fault_or_rows : {X : Type 0} → Option TraceFault → List X → Result (List X) TraceFault
 fault_or_rows (Some fault) rows = Err fault
 fault_or_rows None rows = Ok rows
 
--- what records say whose first one is a header, with the others behind it
+-- what records mean whose first one is a header, with the others after it
 abbrev pub behind_header : {X : Type 0} → (is_header : List (List ℕ) → Bool)
     → (meaning : List (List (List ℕ)) → Result (List X) TraceFault) → List (List (List ℕ))
     → Result (List X) TraceFault
@@ -34,7 +34,7 @@ behind_header is_header meaning [] = Err (at_row 0 (as_whole BadHeader))
 behind_header is_header meaning (header ∷ rows) =
     if is_header header then meaning rows else Err (at_row 0 (as_whole BadHeader))
 
--- what a text means by its records; one of more bytes than the limit is too long, whatever it says
+-- what a text means by its records; one of more bytes than the limit is too long, whatever is in it
 abbrev pub within_limit : {X : Type 0} → (meaning : List (List (List ℕ)) → Result (List X) TraceFault) → List ℕ
     → Result (List X) TraceFault
 within_limit meaning text =

@@ -1,4 +1,4 @@
--- Which row of a trace is at fault, and in what order rows stand that are not.
+-- Which row of a trace is at fault, and the order of rows that aren't.
 use Rattle.std.specs.Prelude.{◌≡◌, ℕ, zero, suc, ◌+◌, ◌≤◌, List, [], ◌∷◌, length, map, true, Option, None, Ok, Err, ⊤}
 use Rattle.std.specs.Prelude.{MatchOption, option_map, option_and_then, slice_get}
 use Rattle.pmp_text.specs.declared.trace.row_fields.RowFields.{RowFields}
@@ -10,7 +10,7 @@ use Rattle.pmp_text.specs.Traces.{after_of, first_row_fault, is_header, row_faul
 use Rattle.pmp_text.specs.declared.trace.reader.TheConstants.{MAX_TRACE}
 use Rattle.pmp_text.specs.Flaws.{at_row}
 
--- how many publications the row before this one asks for; before the first row that is `last`
+-- how many publications the row before this one asks for, or `last` before the first row
 abbrev pub after_before : KnownMoments → (last : Option ℕ) → List (List (List ℕ)) → (index : ℕ) → Option ℕ
 after_before moments last rows zero = last
 after_before moments last rows (suc index) = option_and_then (λ row. after_of (row_of_record moments row)) (slice_get rows index)
@@ -22,14 +22,14 @@ row_fault_at moments rows index = option_and_then
     (row_fault moments.publications (after_before moments None rows index) (row_in moments row)))
     (slice_get rows index)
 
--- the first fault is that of the least faulty row, and where there is none, no row is faulty
+-- the first fault is that of the first faulty row; if there is none, no row is faulty
 abbrev pub FirstRowFaultLaw : Type 0
 FirstRowFaultLaw = (moments : KnownMoments) (rows : List (List (List ℕ)))
     → MatchOption (first_row_fault moments None 1 rows)
     ((index : ℕ) → row_fault_at moments rows index ≡ None)
     (λ fault. IsLeastFault (row_fault_at moments rows) fault)
 
--- a text with a header that isn't too long is refused with the fault of its least faulty row, where it has one
+-- a text with a header that isn't too long is refused with the fault of its first faulty row, if it has one
 abbrev pub LeastRowFaultLaw : Type 0
 LeastRowFaultLaw = (moments : KnownMoments) (text : List ℕ) (header : List (List ℕ)) (rows : List (List (List ℕ)))
     (fault : TraceFault)

@@ -18,7 +18,7 @@ use Rattle.pmp_text.specs.Numbers.{is_bare, word_number}
 use Rattle.pmp_text.specs.Tables.{behind_header, fault_or_rows, is_broken, within_limit}
 use Rattle.pmp_text.specs.Flaws.{at_row, in_part, of_part, part, as_whole}
 
--- the fields of a record that has five
+-- a record's five fields
 pub record FiveFields : Type 0 where
   pub after : List ℕ
   pub mode : List ℕ
@@ -52,11 +52,11 @@ row_fields row = record {
   is_bare = row.is_bare;
 }
 
--- the number of the first of these rows whose start is bare, where the first row has the number `first`
+-- the number of the first of these rows whose start is bare; the first row is numbered `first`
 abbrev pub first_bare : (first : ℕ) → List Row → Option ℕ
 first_bare = position_from (λ row. row.is_bare)
 
--- what five words say: a moment, a mode, a kind and two numbers
+-- what five words mean: a moment, a mode, a kind and two numbers
 abbrev pub row_of_fields : KnownMoments → FiveFields → Result RowFields Flaw
 row_of_fields moments words =
     in_part 0 (after_said moments words.after) (λ after. of_part 1 (mode_named words.mode) (λ mode.
@@ -71,7 +71,7 @@ row_of_fields moments words =
       is_bare = is_bare words.start;
     }))))))
 
--- what a record says as a row, or what of it says nothing: the whole where it goes over several lines
+-- a record read as a row, or which part of it is wrong: the whole if it spans several lines
 abbrev pub row_in : KnownMoments → List (List ℕ) → Result RowFields Flaw
 row_in moments fields =
     if is_broken fields then Err (as_whole BadRow)
@@ -89,19 +89,19 @@ abbrev pub falls_behind : (last : Option ℕ) → (after : ℕ) → Bool
 falls_behind None after = false
 falls_behind (Some last) after = nat_lt after last
 
--- how a trace refuses an access: by its length, or by its first byte
+-- the flaw of an access: its length, or its first byte
 abbrev pub access_flaw : AccessFault → Flaw
 access_flaw access.BadLength = part 4 BadLength
 access_flaw access.PastEnd = part 3 PastEnd
 
--- the fault of what a row says: more publications than there are, then fewer than the row before, then the access
+-- the fault of a row's values: more publications than there are, then fewer than the row before, then the access
 abbrev pub fields_fault : (publications : ℕ) → (last : Option ℕ) → RowFields → Option Flaw
 fields_fault publications last row =
     if nat_lt publications row.after then Some (part 0 BadAfter)
     else (if falls_behind last row.after then Some (part 0 Order)
     else option_map access_flaw (access_fault row.start row.length))
 
--- the fault of a row, of which the first is that it says nothing
+-- the fault of a row; that it can't be read comes first
 abbrev pub row_fault : (publications : ℕ) → (last : Option ℕ) → Result RowFields Flaw → Option Flaw
 row_fault publications last (Err flaw) = Some flaw
 row_fault publications last (Ok row) = fields_fault publications last row
@@ -116,15 +116,15 @@ first_row_fault moments last number (row ∷ more) =
     option_or (option_map (at_row number) (row_fault moments.publications last (row_in moments row)))
     (first_row_fault moments (after_of (row_of_record moments row)) (number + 1) more)
 
--- the rows are numbered from 1, and no row stands before the first one
+-- the rows are numbered from 1, and no row comes before the first one
 abbrev pub rows_meaning : KnownMoments → List (List (List ℕ)) → Result (List RowFields) TraceFault
 rows_meaning moments rows =
     fault_or_rows (first_row_fault moments None 1 rows) (filter_map (row_of_record moments) rows)
 
--- the rows stand behind the header
+-- the rows follow the header
 abbrev pub records_meaning : KnownMoments → List (List (List ℕ)) → Result (List RowFields) TraceFault
 records_meaning moments = behind_header is_header (rows_meaning moments)
 
--- what a text means beside a script with these moments
+-- what a text means for a script with these moments
 unfoldable pub trace_meaning : KnownMoments → List ℕ → Result (List RowFields) TraceFault
 trace_meaning moments text = within_limit (records_meaning moments) text

@@ -1,4 +1,4 @@
--- What the version of a script makes of it.
+-- What depends on the version of a script.
 use Rattle.std.specs.Prelude.{◌≡◌, ◌↔◌, ℕ, List, [], ◌∷◌, ◌++◌, All, length, map, take, Bool, true, false, ◌&&◌}
 use Rattle.std.specs.Prelude.{Result, Ok, Err, Some, None, nat_lt, codes, bytes_eq, if◌then◌else◌}
 use Rattle.std.specs.List.{AllZip, list_all}
@@ -34,7 +34,7 @@ unfoldable pub is_version_one : List (List ℕ) → Bool
 is_version_one (name ∷ version ∷ []) = bytes_eq name (codes "pmp") && bytes_eq version (codes "1")
 is_version_one _ = false
 
--- what lines mean where version 1 is the only one
+-- what lines mean if version 1 is the only one
 abbrev pub lines_meaning_in_one : List Line → Result Publications ScriptFault
 lines_meaning_in_one [] = Err (at_line 1 (as_whole BadVersion))
 lines_meaning_in_one (version ∷ more) =
@@ -42,7 +42,7 @@ lines_meaning_in_one (version ∷ more) =
     then published_behind version more (Sized Sixteen)
     else Err (at_line version.number (version_flaw version.words))
 
--- what a text means where version 1 is the only one
+-- what a text means if version 1 is the only one
 abbrev pub meaning_in_one : List ℕ → Result Publications ScriptFault
 meaning_in_one text =
     if nat_lt MAX_SCRIPT (length text) then Err (at_line 0 (as_whole TooLong))
@@ -55,8 +55,8 @@ pub record IsVersionOne (text : List ℕ) : Type 0 where
   pub lines_are : significant_lines text ≡ version ∷ more
   pub says : version.words ≡ codes "pmp" ∷ codes "1" ∷ []
 
--- the report where version 1 is the only one: the trace has these rows, and the text reports their decisions, each in
--- the file of sixteen entries after the publications that the row asks for
+-- the report if version 1 is the only one: the trace has these rows, and the text reports their decisions, each in the
+-- file of 16 entries after the publications that the row asks for
 pub record IsReportInOne (batches : List (List Event)) (trace text : List ℕ) : Type 0 where
   pub rows : List Row
   pub decisions : List Decision
@@ -65,7 +65,7 @@ pub record IsReportInOne (batches : List (List Event)) (trace text : List ℕ) :
       rows decisions
   pub report : text ≡ report_text rows decisions
 
--- these publications are done in a unit of sixteen entries, from its reset on, and nothing is expected
+-- these publications take place in a unit of 16 entries, from reset on, and nothing is expected
 abbrev pub in_sixteen : (batches : List (List Event)) → (lines : List (List ℕ)) → ScriptContents
 in_sixteen batches lines = record {
   size = Sixteen;
@@ -76,8 +76,8 @@ in_sixteen batches lines = record {
   marks = None;
 }
 
--- it has the fault or the publications that it has where that version is the only one, these are done in a unit of
--- sixteen entries, and every trace has the report that it has there
+-- it has the fault or the publications that it has if that version is the only one, these take place in a unit of 16
+-- entries, and every trace has the same report as there
 pub record MeansAsInOne (text : List ℕ) : Type 0 where
   pub meaning : script_meaning text ≡ for_unit Sixteen (meaning_in_one text)
   pub files : (batches : List (List Event)) (lines : List (List ℕ)) (done : ℕ)
@@ -92,7 +92,7 @@ VersionOneLaw = (text : List ℕ) → IsVersionOne text → MeansAsInOne text
 
 -- ---- version 2
 
--- the other text is the same, but that its first significant line has the words `pmp` and `2` in place of `pmp` and `1`
+-- the other text is the same, except that its first significant line has the words `pmp` and `2`, not `pmp` and `1`
 pub record IsSameInTwo (one two : List ℕ) : Type 0 where
   pub before : List (List ℕ)
   pub version : List ℕ
@@ -105,7 +105,7 @@ pub record IsSameInTwo (one two : List ℕ) : Type 0 where
   pub says_two : words other ≡ codes "pmp" ∷ codes "2" ∷ []
   pub as_long : length two ≡ length one
 
--- the same publications, in a unit of sixty-four entries, from its reset on
+-- the same publications, in a unit of 64 entries, from reset on
 abbrev pub in_sixty_four : ScriptContents → ScriptContents
 in_sixty_four script = record script { size = SixtyFour; start = reset_file (profile_of SixtyFour) }
 
@@ -114,7 +114,7 @@ pub record ReportsAlike (two : List ℕ) (script : ScriptContents) : Type 0 wher
   pub meaning : script_meaning two ≡ Ok (in_sixty_four script)
   pub reports : (trace text : List ℕ) → IsReport script trace text ↔ IsReport (in_sixty_four script) trace text
 
--- a script of version 1 without a fault that writes to the first sixteen entries alone reports the same in version 2
+-- a script of version 1 without a fault that writes only to the first 16 entries reports the same in version 2
 abbrev pub VersionTwoLaw : Type 0
 VersionTwoLaw = (one two : List ℕ) (script : ScriptContents) → IsSameInTwo one two → script_meaning one ≡ Ok script
     → list_all (writes_first 16) (joined script.batches) ≡ true → ReportsAlike two script
@@ -128,7 +128,7 @@ pub record IsSized (text : List ℕ) (size : Size) : Type 0 where
   pub lines_are : significant_lines text ≡ first ∷ more
   pub says : version_named first.words ≡ Some (Sized size)
 
--- a script of version 1 or 2 is for the unit of its size, from its reset on, expects nothing, and names no moment
+-- a script of version 1 or 2 is for the unit of its size, from reset on, expects nothing, and names no moment
 pub record HasNoHead (size : Size) (script : ScriptContents) : Type 0 where
   pub sized : script.size ≡ size
   pub start : script.start ≡ reset_file (profile_of size)
@@ -139,8 +139,8 @@ abbrev pub NoHeadLaw : Type 0
 NoHeadLaw = (text : List ℕ) (size : Size) (script : ScriptContents) → IsSized text size
     → script_meaning text ≡ Ok script → HasNoHead size script
 
--- ---- where units begin
+-- ---- where units start
 
--- a script's unit begins with a register file that its hart can have
+-- a script's unit starts from a register file that its hart can have
 abbrev pub LegalStartLaw : Type 0
 LegalStartLaw = (text : List ℕ) (script : ScriptContents) → script_meaning text ≡ Ok script → IsLegal script.start

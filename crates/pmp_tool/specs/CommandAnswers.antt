@@ -1,4 +1,4 @@
--- What a command answers of one hart, why it gets no answer, and which outcomes end well.
+-- What a command returns for one hart, why it fails, and the status of an outcome.
 use Rattle.std.specs.Prelude.{ℕ, List, Option, ◌==◌, if◌then◌else◌, ⊤}
 use Rattle.std.specs.Io.KnownBytes.{Keeps}
 use Rattle.pmp_audit.specs.Answers.{IsWritten}
@@ -22,14 +22,14 @@ abbrev pub IsScriptOf : Request → (known : Option (List ℕ)) → List ℕ →
 IsScriptOf (OfLog import) known script = ⊤
 IsScriptOf _ known script = AreBytesOf known script
 
--- the script of a command was read, and what the command asks for was written
+-- a command's script was read, and its output written
 pub record CommandAnswers (scripts traces : Inputs) (command : Command) (before after : Option (List ℕ))
     (outcome : Outcome) : Type 0 where
   pub script : List ℕ
   pub read : IsScriptOf command.request (scripts command.script.now) script
   pub written : IsWritten (RequestSays scripts traces script command.request) before after outcome
 
--- a script can't be read, of two scripts the one on a side, or what is done with it fails
+-- a script can't be read, of two the one on this side, or processing it fails
 pub data IsUnscripted (before after : Option (List ℕ)) (known : Option (List ℕ)) (side : Option Side) (request : Request)
     (Fails : List ℕ → Failure → Type 0) : Failure → Type 0 where
   no_script : (fault : Refusal) → CantBeRead MAX_HEADED_SCRIPT known fault → Keeps before after
@@ -37,15 +37,15 @@ pub data IsUnscripted (before after : Option (List ℕ)) (known : Option (List �
   of_script : (script : List ℕ) (failure : Failure) → IsScriptOf request known script → Fails script failure
       → IsUnscripted before after known side request Fails failure
 
--- why a command gets no answer: its script can't be read, or what it asks for of the script fails
+-- why a command fails: its script can't be read, or processing it fails
 abbrev pub CommandFails : (scripts traces : Inputs) → Command → (before after : Option (List ℕ)) → Failure → Type 0
 CommandFails scripts traces command before after =
     IsUnscripted before after (scripts command.script.now) (old_side command.request) command.request
     (λ script. RequestFails before after scripts traces script command.request)
 
--- a check ends well where the answer is the expected one, a reason where the access is allowed, an audit where all
--- accesses are, a policy where no row is broken, writes where all are stored as written, a comparison or a lint where no
--- row is written, and all else does
+-- status 0: a check with the expected answer, a `why` with an access allowed, an audit with all accesses allowed, a
+-- policy with no row broken, writes all stored as written with all expectations met, a comparison or a lint without
+-- rows, and all else
 abbrev pub outcome_status : Outcome → ℕ
 outcome_status (Decided decision asked) = if is_met asked.expected decision then 0 else 1
 outcome_status (Explained decision is_bare) = if decision.allowed then 0 else 1

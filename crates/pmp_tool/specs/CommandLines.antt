@@ -11,7 +11,7 @@ use Rattle.pmp_tool.specs.Arguments.{arguments_of, command_word, commands, rule_
 use Rattle.pmp_names.specs.AddressNames.{Named}
 use Rattle.pmp_tool.specs.Commands.{Asked, Import, LongAudit, asked_of}
 
--- an argument more
+-- one more argument
 unfoldable pub with_argument : App → Argument → App
 with_argument app argument = with_rule app (rule_in argument)
 
@@ -19,7 +19,7 @@ with_argument app argument = with_rule app (rule_in argument)
 unfoldable pub command_app : CommandName → App
 command_app name = fold with_argument (new_app (command_word name)) (arguments_of name)
 
--- it has a version, its words begin with a subcommand, and help answers where there are none
+-- it has a version, its words begin with a subcommand, and without words it shows help
 abbrev pub as_top : App → App
 as_top app = record app {
   top = record app.top {
@@ -36,11 +36,11 @@ top_app = as_top (new_app (codes "pmp"))
 unfoldable pub with_command : (program command : App) → App
 with_command program command = with_subcommand program command.top
 
--- the program, with a subcommand for each thing that it does
+-- the program, with a subcommand for each command
 unfoldable pub commands_app : App
 commands_app = fold (λ program name. with_command program (command_app name)) top_app commands
 
--- a topic of help, `help NAME`: as a command it wants a word, and takes none
+-- a help topic, `help NAME`: as a command it requires a word, and takes none
 abbrev pub topic_app : (name : Text) → App
 topic_app name = let app = new_app name in record app {
   top = record app.top {
@@ -48,13 +48,13 @@ topic_app name = let app = new_app name in record app {
   };
 }
 
--- and with a topic of help for each format
+-- and with a help topic for each format
 abbrev pub pmp_app : App
 pmp_app =
     with_command (with_command (with_command commands_app (topic_app (codes "script"))) (topic_app (codes "trace")))
     (topic_app (codes "rows"))
 
--- clap takes the words, and what it finds in them asks for that, where addresses have these names
+-- clap accepts the words, and its matches ask for this, with these names for addresses
 abbrev pub WordsAskFor : List Named → List Text → Asked → Type 0
 WordsAskFor names words task =
     (fault_of pmp_app words ≡ []) × (asked_of names (subcommand_of pmp_app words) ≡ Ok task)
@@ -78,11 +78,11 @@ pub record AsksForImport (words : List Text) : Type 0 where
   pub names : List Named
   pub task : WordsAskFor names words (record { script = script; task = Import log format options folder })
 
--- the words ask for what is written piece by piece
+-- the words ask for output that is written piece by piece
 abbrev pub AsksForPieces : List Text → Type 0
 AsksForPieces words = AsksForLongAudit words ⊎ AsksForImport words
 
--- clap may answer the words by a text: help, or the version
+-- clap may answer the words with a text: help or the version
 abbrev pub MayAskForText : List Text → Type 0
 MayAskForText words = IsAmong DisplayHelp (fault_of pmp_app words) ⊎ IsAmong DisplayVersion (fault_of pmp_app words)
 

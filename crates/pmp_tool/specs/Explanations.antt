@@ -1,4 +1,4 @@
--- What the program adds to a failure's text where its words ask for an explanation.
+-- What the program adds to a failure's text if its words ask for an explanation.
 use Rattle.std.specs.Prelude.{◌≡◌, ℕ, Bool, false, List, [], ◌++◌, Option, IfSome, codes}
 use Rattle.std.specs.List.{list_any}
 use Rattle.std.specs.Str.{bytes_eq}
@@ -14,8 +14,8 @@ is_explain word = bytes_eq word (codes "--explain")
 abbrev pub asks_to_explain : (words : List Text) → Bool
 asks_to_explain words = list_any is_explain words
 
--- known bytes grow by a failure's text and an explanation behind it, or by a beginning of both; there is no explanation
--- where the words don't ask for one
+-- a failure's text and then an explanation, or a prefix of both, is appended to known bytes; there is no explanation if
+-- the words don't ask for one
 abbrev pub TellsAndExplains : (words : List Text) → Failure → (before after : Option (List ℕ)) → Type 0
 TellsAndExplains words failure before after = IfSome (failure_text failure) (λ text. (explanation : List ℕ)
     × (asks_to_explain words ≡ false → explanation ≡ []) × AppendsBeginning before after (text ++ explanation))

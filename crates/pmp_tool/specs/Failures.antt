@@ -1,4 +1,4 @@
--- How the program tells of a failure, and the status of that.
+-- How the program reports a failure, and its status.
 use Rattle.std.specs.Prelude.{ℕ, List, Option, Some, None, IfSome}
 use Rattle.arrayvec.specs.declared.array_string.ArrayString.{ArrayString}
 use Rattle.clap.specs.Words.{kind_of}
@@ -37,16 +37,16 @@ refused_at refusal place = Refused (record { refusal = refusal; place = place })
 abbrev pub refused : Refusal → Failure
 refused refusal = refused_at refusal Nowhere
 
--- an input that can't be read: of two scripts, the one on a side
+-- an input that can't be read: of two scripts, the one on this side
 abbrev pub unread : Refusal → Option Side → Failure
 unread refusal None = refused refusal
 unread refusal (Some side) = refused_at refusal (Script side)
 
--- a fault of names, where it is
+-- a fault of names, with its place
 abbrev pub unnamed : NamesFault → Failure
 unnamed fault = refused_at fault.refusal (place_in_names fault)
 
--- a failure of an answer whose rows are kept in memory, which they may lack
+-- a failure while rows are kept in memory: output that fails is lack of memory
 abbrev pub failure_in : Refusal → FaultLine → Failure
 failure_in Output line = refused Memory
 failure_in _ line = Refused line
@@ -55,12 +55,12 @@ abbrev pub in_memory : Failure → Failure
 in_memory (Refused line) = failure_in line.refusal line
 in_memory failure = failure
 
--- a failure on one hart of several
+-- a failure on one of several harts
 abbrev pub of_hart : ArrayString HART_NAME → Failure → Failure
 of_hart name (Refused line) = OfHart name line
 of_hart name failure = failure
 
--- words that clap refuses; it may run out of memory, too
+-- words that clap refuses; it may also run out of memory
 abbrev pub unparsed_as : ErrorKind → Error → Failure
 unparsed_as OutOfMemory error = refused Memory
 unparsed_as _ error = Words error
@@ -68,11 +68,11 @@ unparsed_as _ error = Words error
 abbrev pub unparsed : Error → Failure
 unparsed error = unparsed_as (kind_of error) error
 
--- an answer's fault, where it is
+-- an answer's fault, with its place
 abbrev pub unaudited : AuditFault → Failure
 unaudited fault = refused_at (refusal_of fault) (place_of fault)
 
--- a log's fault, where it is
+-- a log's fault, with its place
 abbrev pub unimported : ImportFault → Failure
 unimported fault = refused_at fault.kind (place_in_log fault)
 
@@ -83,12 +83,12 @@ unplanned (answer.Script fault) = unaudited (audit.Script fault)
 unplanned (answer.Plan fault) = refused_at (plan_refusal fault) (place_in_plan fault)
 unplanned answer.Output = refused Output
 
--- a refusal's text is a line; clap's texts are its own
+-- a refusal's text is one line; clap has its own texts
 abbrev pub failure_text : Failure → Option (List ℕ)
 failure_text (Words error) = None
 failure_text (Refused line) = Some (line_text line.refusal line.place)
 failure_text (OfHart name line) = Some (hart_line_text name.bytes line.refusal line.place)
 
--- known bytes grow by a failure's text or by a beginning of it
+-- a failure's text, or a prefix of it, is appended to known bytes
 abbrev pub Tells : Failure → (before after : Option (List ℕ)) → Type 0
 Tells failure before after = IfSome (failure_text failure) (AppendsBeginning before after)

@@ -1,4 +1,4 @@
--- The line that tells of a refusal.
+-- The line that reports a refusal.
 use Rattle.std.specs.Prelude.{ℕ, List, [], ◌++◌, codes, decimal, Option, Some, None, ◌==◌, if◌then◌else◌}
 use Rattle.pmp_text.specs.Refusals.{refusal_text}
 use Rattle.pmp_text.specs.declared.refusal.Refusal.{Refusal}
@@ -17,7 +17,7 @@ use Rattle.pmp_tool.specs.declared.fault_line.Place.TheVariants.{Nowhere, Word, 
 use Rattle.pmp_tool.specs.declared.fault_line.Place.TheVariants.{Script, LineOf, LogLine, NamesRow, PlanRow, PlanRows}
 use Rattle.pmp_tool.specs.declared.fault_line.Place.TheVariants.{PlanEntries}
 
--- where a fault of an answer is: line 0 stands for none, and so does row 0
+-- the place of an answer's fault; line 0 and row 0 mean none
 abbrev pub place_of : AuditFault → Place
 place_of (audit.Script fault) = if fault.line == 0 then Nowhere else ScriptLine fault
 place_of (audit.Trace fault) = if fault.row == 0 then Nowhere else TraceRow fault
@@ -27,11 +27,11 @@ place_of (audit.BadAfterOf side) = Script side
 place_of (audit.NoMomentOf side) = Script side
 place_of _ = Nowhere
 
--- and of an import
+-- the same for an import
 abbrev pub place_in_log : ImportFault → Place
 place_in_log fault = if fault.line == 0 then Nowhere else LogLine fault
 
--- and of a plan, whose rows are counted from 0 there and from 1 here
+-- the same for a plan, whose rows count from 0 there and from 1 here
 abbrev pub plan_row : Refusal → (row : ℕ) → (field : Option ℕ) → Place
 plan_row refusal row field = PlanRow (record { kind = refusal; row = next_row row; field = field })
 
@@ -43,7 +43,7 @@ place_in_plan (fault.BadPair row) = plan_row BadPair row None
 place_in_plan (fault.FewEntries found row takes) = PlanEntries (next_row row) takes found
 place_in_plan _ = Nowhere
 
--- and of names
+-- the same for names
 abbrev pub place_in_names : NamesFault → Place
 place_in_names fault = if fault.row == 0 then Nowhere else NamesRow fault
 
@@ -51,7 +51,7 @@ abbrev pub side_text : Side → List ℕ
 side_text Old = codes "old"
 side_text New = codes "new"
 
--- the script's line, the trace's row or the policy's, and which of two scripts it is
+-- the line or row at fault, and which of two scripts it is
 abbrev pub place_text : Place → List ℕ
 place_text Nowhere = []
 place_text (Word argument) = []
@@ -76,7 +76,7 @@ fault_text refusal place = place_text place ++ (codes "refused " ++ refusal_text
 abbrev pub line_text : Refusal → Place → List ℕ
 line_text refusal place = codes "pmp: " ++ (fault_text refusal place ++ codes "\n")
 
--- of a hart of several
+-- for one of several harts
 abbrev pub hart_line_text : (name : List ℕ) → Refusal → Place → List ℕ
 hart_line_text name refusal place =
     codes "pmp: " ++ (name ++ (codes ": " ++ (fault_text refusal place ++ codes "\n")))

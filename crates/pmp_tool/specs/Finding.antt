@@ -14,12 +14,12 @@ use Rattle.pmp_tool.specs.Failures.{unread}
 use Rattle.pmp_tool.specs.Harts.{IsNewOfHarts, IsOfHarts}
 use Rattle.pmp_tool.specs.Inputs.{CantBeOpened, Folders, IsFolder}
 
--- at a path are these harts, or no folder
+-- a path has these harts, or isn't a folder
 abbrev pub AreFoundAt : (known : Option (Option (List Text))) → Option (List Text) → Type 0
 AreFoundAt known None = IsOfHarts known false []
 AreFoundAt known (Some harts) = IsOfHarts known true harts
 
--- at that of the new script, where there is one
+-- the same for the new script, if there is one
 abbrev pub AreFoundNew : Folders → (new : Option Text) → Option (List Text) → Type 0
 AreFoundNew folders new None = IsNewOfHarts folders new false []
 AreFoundNew folders new (Some harts) = IsNewOfHarts folders new true harts
@@ -31,7 +31,7 @@ IsUnlisted side failure = (fault : Refusal) × CantBeOpened fault × (failure �
 abbrev pub IsUnfit : (files : List Text) → (side : Option Side) → Failure → Type 0
 IsUnfit files side failure = (fault : Refusal) × HasNoHarts files fault × (failure ≡ unread fault side)
 
--- what can't be read at a path, or has no harts
+-- a path can't be read, or has no harts
 pub data AreUnfoundAt (known : Option (Option (List Text))) (side : Option Side) : Failure → Type 0 where
   unlisted : (fault : Refusal) → CantBeOpened fault → AreUnfoundAt known side (unread fault side)
   unfit : (fault : Refusal) (files : List Text) → IsFolder known (Some files) → HasNoHarts files fault
@@ -40,7 +40,7 @@ pub data AreUnfoundAt (known : Option (Option (List Text))) (side : Option Side)
 abbrev pub AreUnfoundNew : Folders → (new : Option Text) → Failure → Type 0
 AreUnfoundNew folders new failure = (path : Text) × (side : Option Side) × AreUnfoundAt (folders path) side failure
 
--- the harts of an old folder and of a new one, where they are there
+-- the harts of an old folder and of a new one, if there are any
 abbrev pub AreJoined : (old new : Option (List Text)) → Option Harts → Type 0
 AreJoined None None None = ⊤
 AreJoined (Some old) None (Some harts) =
@@ -51,7 +51,7 @@ AreJoined (Some old) (Some new) (Some harts) = (harts.old ≡ true) × (harts.ne
     × (names_of harts.names.items ≡ old) × (names_of harts.names.items ≡ new)
 AreJoined old new harts = ⊥
 
--- two folders with other harts each
+-- two folders with different harts
 pub record AreUnjoined (old new : Option (List Text)) (refusal : Refusal) : Type 0 where
   pub old_harts : List Text
   pub new_harts : List Text

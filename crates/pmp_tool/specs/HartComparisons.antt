@@ -1,4 +1,4 @@
--- The harts of a folder compared with its first one.
+-- The harts of a folder compared with its first.
 use Rattle.std.specs.Prelude.{◌≡◌, ℕ, List, [], ◌∷◌, Bool, true, false, Option, None}
 use Rattle.std.specs.Io.KnownBytes.{Keeps}
 use Rattle.clap.specs.Words.{Text}
@@ -16,7 +16,7 @@ use Rattle.pmp_tool.specs.Failures.{refused}
 use Rattle.pmp_tool.specs.Harts.{HartsAnswer, HartsFail, path_on}
 use Rattle.pmp_tool.specs.Inputs.{Inputs}
 
--- the harts of a folder are to be compared with each other
+-- the harts of a folder are compared with each other
 abbrev pub compares_harts : Request → Bool
 compares_harts (request.Harts has_locks) = true
 compares_harts _ = false
@@ -26,7 +26,7 @@ abbrev pub compares_locks : Request → Bool
 compares_locks (request.Harts has_locks) = has_locks
 compares_locks _ = false
 
--- all bytes of the first hart's script, and of the script of each hart of the folder
+-- a comparison of all bytes, of the first hart's script with each hart's in the folder
 abbrev pub compared_with : (first : Text) (has_locks : Bool) → Asked → Asked
 compared_with first has_locks asked = record {
   script = path_on true asked.script first;
@@ -45,21 +45,21 @@ pub record IsComparison (command : Command) (harts : Harts) (one : Command) (oth
 
 module _ (scripts traces : Inputs) (command : Command) (naming : Option Naming) (harts : Harts)
     (before after : Option (List ℕ)) where
-  -- each was compared
+  -- each hart was compared
   pub record HartsCompare (outcome : Outcome) : Type 0 where
     pub one : Command
     pub others : Harts
     pub is : IsComparison command harts one others
     pub answers : HartsAnswer scripts traces one naming others before after outcome
 
-  -- why they aren't
+  -- why they weren't
   pub data CantCompare : Failure → Type 0 where
     cant_compare : (one : Command) (others : Harts) (failure : Failure) → IsComparison command harts one others
         → HartsFail scripts traces one naming others before after failure → CantCompare failure
     no_first : names_of harts.names.items ≡ [] → Keeps before after → CantCompare (refused BadFolder)
     no_path : Keeps before after → CantCompare (refused Memory)
 
-  -- a command was answered of the harts of a folder: each compared with the first, or each by itself
+  -- a command's answer for the harts of a folder: each compared with the first, or each alone
   abbrev pub FolderAnswerBy : (compares : Bool) → Outcome → Type 0
   FolderAnswerBy true outcome = HartsCompare outcome
   FolderAnswerBy false outcome = HartsAnswer scripts traces command naming harts before after outcome

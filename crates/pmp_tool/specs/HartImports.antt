@@ -1,4 +1,4 @@
--- The scripts of all harts of a log, in a folder that is made for them.
+-- The scripts of all harts of a log, in a folder made for them.
 use Rattle.std.specs.Prelude.{◌≡◌, ◌+◌, ◌==◌, ◌<◌, ℕ, List, [], ◌∷◌, ◌++◌, length, map, Option, Some, None, Ok}
 use Rattle.std.specs.Prelude.{All, if◌then◌else◌, option_map}
 use Rattle.clap.specs.Words.{Text}
@@ -25,13 +25,13 @@ use Rattle.pmp_tool.specs.HartScripts.{AreMade, CantBeMade}
 use Rattle.pmp_tool.specs.Inputs.{AreBytesOf, CantBeOpened, Inputs}
 use Rattle.pmp_tool.specs.NamedAnswers.{FailsApart}
 
--- the harts from this number on that have writes, by how many each has
+-- the harts from this number on that have writes, by each hart's count
 abbrev pub writers_from : (hart : ℕ) → (writes : List ℕ) → List ℕ
 writers_from hart [] = []
 writers_from hart (count ∷ more) =
     if count == 0 then writers_from (hart + 1) more else hart ∷ writers_from (hart + 1) more
 
--- the harts of a log of which a reading found this
+-- the harts that have writes by this survey of a log
 abbrev pub writers : Survey → List ℕ
 writers survey = writers_from 0 survey.writes
 
@@ -42,20 +42,20 @@ import_of hart import = record import { options = record import.options { hart =
 abbrev pub command_of : (hart : ℕ) → Import → Command → Command
 command_of hart import command = record command { request = request.Import (import_of hart import) }
 
--- a reading of the log found this, where no hart was asked for
+-- a survey of the log found this, with no hart asked for
 pub record IsFound (known : Option (List ℕ)) (format : Format) (survey : Survey) : Type 0 where
   pub log : List ℕ
   pub is_log : AreBytesOf known log
   pub found : surveyed format None (lines log) ≡ Ok survey
 
--- a log can't be read so
+-- a log can't be surveyed
 pub data IsUnfound (known : Option (List ℕ)) (format : Format) : Failure → Type 0 where
   unopened : (fault : Refusal) → CantBeOpened fault → IsUnfound known format (refused fault)
   unsurveyed : (log : List ℕ) (fault : ImportFault) → AreBytesOf known log
       → Stops (surveyed format None (lines log)) log fault → IsUnfound known format (unimported fault)
 
 module _ (scripts traces : Inputs) (command : Command) (import : Import) where
-  -- the text is what the import of this hart writes
+  -- the text is the output of this hart's import
   pub record IsOfHart (script : HartScript) : Type 0 where
     pub outcome : Outcome
     pub answers : CommandAnswers scripts traces (command_of script.hart import command) (Some []) (Some script.text.items)
@@ -66,14 +66,14 @@ module _ (scripts traces : Inputs) (command : Command) (import : Import) where
     pub names : map (λ script. script.hart) made ≡ harts
     pub each : All IsOfHart made
 
-  -- that of this hart was appended
+  -- this hart's script was appended
   pub record AddsHart (hart : ℕ) (before after : List HartScript) : Type 0 where
     pub script : HartScript
     pub hart_is : script.hart ≡ hart
     pub of : IsOfHart script
     pub items : after ≡ before ++ script ∷ []
 
-  -- the import of one of them fails, or there is no memory for it
+  -- the import of one hart fails, or there is no memory for its script
   pub data OneFails : Failure → Type 0 where
     of_hart : (hart : ℕ) (failure : Failure) → FailsApart scripts traces (command_of hart import command) failure
         → OneFails failure
@@ -89,7 +89,7 @@ module _ (scripts traces : Inputs) (command : Command) (import : Import) where
     pub in_folder : AreMade path all made
     pub is : outcome ≡ Imported (Scripts (length all))
 
-  -- why there is no folder: the log can't be read or has no hart, one's import fails, or all have one and it can't be made
+  -- why there is no folder: the log can't be read or has no hart, an import fails, or the folder can't be made
   pub data CantMake : Failure → Type 0 where
     unread_log : (failure : Failure) → IsUnfound (traces import.log.now) import.format failure → CantMake failure
     no_harts : (survey : Survey) → IsFound (traces import.log.now) import.format survey → writers survey ≡ []

@@ -6,14 +6,14 @@ use Rattle.pmp_text.specs.declared.refusal.Refusal.TheVariants.{Memory, Output}
 use Rattle.pmp_tool.specs.declared.hart_script.HartScript.{HartScript}
 use Rattle.pmp_tool.specs.Inputs.{AreBytesOf, Inputs}
 
--- the file of a hart's script
+-- the file name of a hart's script
 abbrev pub script_name : (hart : ℕ) → Text
 script_name hart = codes "hart" ++ (decimal hart ++ codes ".pmp")
 
 abbrev pub path_in : (folder : Text) (hart : ℕ) → Text
 path_in folder hart = folder ++ (codes "/" ++ script_name hart)
 
--- each is the script at its path in the folder, as far as it is known
+-- each file in the folder is the hart's script, as far as known
 abbrev pub AreMade : (folder : Text) → List HartScript → (made : Inputs) → Type 0
 AreMade folder scripts made = All (λ script. AreBytesOf (made (path_in folder script.hart)) script.text.items) scripts
 

@@ -1,4 +1,4 @@
--- How a command is answered of one hart of several.
+-- How a command is answered for one of several harts.
 use Rattle.std.specs.Prelude.{◌≡◌, ℕ, List, ◌++◌, Option}
 use Rattle.clap.specs.Words.{Text}
 use Rattle.pmp_text.specs.declared.refusal.Refusal.TheVariants.{Memory}
@@ -16,13 +16,13 @@ use Rattle.pmp_tool.specs.Inputs.{Inputs}
 use Rattle.pmp_tool.specs.NamedAnswers.{FailsApart}
 use Rattle.pmp_tool.specs.Names.{named_by}
 
--- the new script is at this path, where there is one
+-- the new script is at this path, if there is one
 abbrev pub with_new : (path : Text) → Task → Task
 with_new path (Diff new old_after new_after changes) = Diff path old_after new_after changes
 with_new path task = task
 
 module _ (scripts traces : Inputs) (command : Command) (naming : Option Naming) where
-  -- it was answered of one, whose rows are appended behind its name
+  -- one hart was answered, and its rows were appended, each after its name
   pub record IsAnsweredOn (harts : Harts) (name : Text) (before after : List ℕ) (outcome : Outcome) : Type 0 where
     pub answer : HartAnswer
     pub is : IsAnswered scripts traces command harts answer

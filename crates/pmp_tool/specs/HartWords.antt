@@ -1,4 +1,4 @@
--- The hart that words of the command line say.
+-- The hart that the command line describes.
 use Rattle.std.specs.Prelude.{ℕ, Bool, true, false, ◌||◌, List, Option, Some, None, option_map, unwrap_or}
 use Rattle.std.specs.Prelude.{Result, Ok, Err}
 use Rattle.clap.specs.Words.{Row}
@@ -16,7 +16,7 @@ use Rattle.pmp_tool.specs.declared.word.Xlen.{Xlen}
 use Rattle.pmp_tool.specs.Words.{and_then, asked_in, bad_word, byte_named, grain_named, is_set, is_used, smepmp_named}
 use Rattle.pmp_tool.specs.Words.{xlen_named}
 
--- the option whose number no hart has
+-- the option whose value no hart has
 abbrev pub argument_of : HartFault → Argument
 argument_of hart_fault.Entries = argument.Entries
 argument_of hart_fault.Grain = argument.Grain
@@ -25,7 +25,7 @@ argument_of hart_fault.AddressBits = argument.AddressBits
 abbrev pub made : Profile → Result Profile FaultLine
 made profile = elim (hart_fault profile) [ Some fault ↦ Err (bad_word (argument_of fault)) | None ↦ Ok profile ]
 
--- what isn't said is as of a hart of RV64 with 16 entries, the finest grain, the widest addresses and Smepmp
+-- by default RV64, 16 entries, the finest grain, the widest addresses and Smepmp
 abbrev pub profile_said : HartWords → Profile
 profile_said words = let is_rv32 = unwrap_or (option_map (λ said. said.is_rv32) words.xlen) false in record {
   entries = unwrap_or words.entries 16;
@@ -35,7 +35,7 @@ profile_said words = let is_rv32 = unwrap_or (option_map (λ said. said.is_rv32)
   is_rv32 = is_rv32;
 }
 
--- the hart with this XLEN, so many entries and this grain
+-- the hart with this XLEN, number of entries and grain
 abbrev pub hart_with : Option Xlen → (entries : Option ℕ) → Option Grain → List Row → Result Profile FaultLine
 hart_with xlen entries grain rows =
     and_then (asked_in byte_named argument.AddressBits rows) (λ bits.
@@ -60,7 +60,7 @@ security_in rows = record {
   rlb = is_set argument.Rlb rows;
 }
 
--- the words say anything of a hart
+-- the words describe a hart
 abbrev pub says_hart : List Row → Bool
 says_hart rows = is_used argument.Xlen rows || (is_used argument.Entries rows || (is_used argument.Grain rows
     || (is_used argument.AddressBits rows || is_used argument.Smepmp rows)))
@@ -70,6 +70,6 @@ abbrev pub says_security : List Row → Bool
 says_security rows =
     is_set argument.Mml rows || (is_set argument.Mmwp rows || is_set argument.Rlb rows)
 
--- they say anything of what a plan is for
+-- they describe what a plan is for
 abbrev pub is_hart_said : List Row → Bool
 is_hart_said rows = says_hart rows || says_security rows

@@ -1,4 +1,4 @@
--- A command that is asked of each hart of a folder of scripts, and what it answers.
+-- A command for each hart of a folder of scripts, and its answers.
 use Rattle.std.specs.Prelude.{◌≡◌, ◌⊎◌, ℕ, List, [], ◌∷◌, ◌++◌, map, fold, codes, Bool, true, false, ◌||◌, ◌==◌}
 use Rattle.std.specs.Prelude.{Option, Some, None, if◌then◌else◌, All}
 use Rattle.std.specs.Io.KnownBytes.{Appends, Keeps}
@@ -28,9 +28,9 @@ use Rattle.pmp_tool.specs.Names.{named_by}
 use Rattle.pmp_tool.specs.Inputs.{CantBeOpened, Folders, Inputs, IsFolder}
 use Rattle.pmp_tool.specs.CommandAnswers.{CommandAnswers, CommandFails, outcome_status}
 
--- ---- which harts a command is asked of
+-- ---- the harts that a command is for
 
--- a folder may stand where a script does, but for a picture, a dump, a long audit, a log and a plan
+-- a folder may replace a script, except to show registers, a script or a picture, and for long audits, logs and plans
 abbrev pub takes_folder : Request → Bool
 takes_folder (request.Check check) = true
 takes_folder (request.Why why) = true
@@ -60,7 +60,7 @@ abbrev pub reads_stdin : Command → Bool
 reads_stdin command = bytes_eq command.script.now (codes "stdin")
     || elim (second_input command.request) [ None ↦ false | Some path ↦ bytes_eq path (codes "stdin") ]
 
--- at a path is a folder with these harts, or none
+-- a path is a folder with these harts, or no folder
 abbrev pub IsOfHarts : (known : Option (Option (List Text))) → (is_folder : Bool) → (harts : List Text) → Type 0
 IsOfHarts known false harts = IsFolder known None
 IsOfHarts known true harts = (files : List Text) × IsFolder known (Some files) × AreHarts files harts
@@ -69,16 +69,16 @@ abbrev pub IsNewOfHarts : Folders → (new : Option Text) → (is_folder : Bool)
 IsNewOfHarts folders None is_folder harts = is_folder ≡ false
 IsNewOfHarts folders (Some path) is_folder harts = IsOfHarts (folders path) is_folder harts
 
--- a command's scripts are folders so
+-- which scripts of a command are folders, with these harts
 pub record AreAt (folders : Folders) (command : Command) (is_old is_new : Bool) (harts : List Text) : Type 0 where
   pub old : IsOfHarts (folders command.script.now) is_old harts
   pub new : IsNewOfHarts folders (new_script command.request) is_new harts
 
--- no script of it is a folder
+-- none of its scripts is taken as a folder
 abbrev pub IsOfNone : Folders → Command → Type 0
 IsOfNone folders command = (takes_folder command.request ≡ false) ⊎ AreAt folders command false false []
 
--- one is, and its other inputs are no standard input, which can't be read for each hart
+-- one is, and no input is standard input, which can't be read for each hart
 pub record IsOfSome (folders : Folders) (command : Command) (harts : Harts) : Type 0 where
   pub takes : takes_folder command.request ≡ true
   pub are : AreAt folders command harts.old harts.new (names_of harts.names.items)
@@ -89,7 +89,7 @@ abbrev pub AreFound : Folders → Command → Option Harts → Type 0
 AreFound folders command None = IsOfNone folders command
 AreFound folders command (Some harts) = IsOfSome folders command harts
 
--- why the harts of a command aren't found: a folder can't be read, or has none, or not those of the other one
+-- why harts aren't found: a folder can't be read or has none, two have different harts, or stdin is an input
 pub data AreUnfound (folders : Folders) (command : Command) : Failure → Type 0 where
   unread_folder : (fault : Refusal) (side : Option Side) → CantBeOpened fault
       → AreUnfound folders command (unread fault side)
@@ -100,7 +100,7 @@ pub data AreUnfound (folders : Folders) (command : Command) : Failure → Type 0
       → AreUnfound folders command (refused BadFolder)
   one_reading : reads_stdin command ≡ true → AreUnfound folders command (refused BadWord)
 
--- ---- what is asked of each of them
+-- ---- what is asked of each hart
 
 abbrev pub path_on : (is_folder : Bool) (path name : Text) → Text
 path_on true path name = path ++ (codes "/" ++ name)
@@ -110,31 +110,31 @@ abbrev pub task_on : (new : Bool) (name : Text) → Task → Task
 task_on new name (Diff path old_after new_after only) = Diff (path_on new path name) old_after new_after only
 task_on new name task = task
 
--- the script, and the new one, are those of the hart
+-- the script, and the new one, are the hart's
 abbrev pub asked_on : Harts → (name : Text) → Asked → Asked
 asked_on harts name asked = record {
   script = path_on harts.old asked.script name;
   task = task_on harts.new name asked.task;
 }
 
--- what was answered of a hart: what it did, and the rows
+-- a hart's answer: its outcome, and the rows
 pub record HartAnswer : Type 0 where
   pub name : Text
   pub outcome : Outcome
   pub rows : List ℕ
 
 module _ (scripts traces : Inputs) (command : Command) (harts : Harts) where
-  -- the command on this hart, whose rows are answered alone
+  -- the command on this hart alone, and its rows
   pub record IsAnswered (answer : HartAnswer) : Type 0 where
     pub one : Command
     pub is_on : asked one ≡ asked_on harts answer.name (asked command)
     pub answers : CommandAnswers scripts traces one (Some []) (Some answer.rows) answer.outcome
 
--- all rows, each behind its hart's name, and with the names of its bytes behind it
+-- all rows, each after its hart's name, and followed by the names of its bytes
 abbrev pub all_rows : Option Naming → List HartAnswer → List ℕ
 all_rows naming answers = flat_map (λ answer. named_rows answer.name (named_by naming answer.rows)) answers
 
--- a verdict holds if it holds on each hart: the first outcome that doesn't end well, or else the last
+-- a verdict holds if it holds on each hart: the first outcome whose status isn't 0, or else the last
 abbrev pub worse : (first second : Outcome) → Outcome
 worse first second = if outcome_status first == 0 then second else first
 
@@ -142,7 +142,7 @@ abbrev pub worst : List HartAnswer → Outcome
 worst answers = fold (λ outcome answer. worse outcome answer.outcome) Listed answers
 
 module _ (scripts traces : Inputs) (command : Command) (harts : Harts) where
-  -- the harts whose names stand before those of the rest were answered
+  -- the harts before `rest` were answered
   pub record AreAnswered (rest : List Text) (answers : List HartAnswer) : Type 0 where
     pub each : All (IsAnswered scripts traces command harts) answers
     pub names : names_of harts.names.items ≡ map (λ answer. answer.name) answers ++ rest
@@ -154,7 +154,7 @@ module _ (scripts traces : Inputs) (command : Command) (naming : Option Naming) 
     pub written : Appends before after (all_rows naming answers)
     pub is : outcome ≡ worst answers
 
-  -- why they get no answer: those before one do, and what is asked of that one fails; nothing is written then
+  -- why they get no answer: a hart's command fails, memory runs out, or the output fails, perhaps after a part
   pub data HartsFail (before after : Option (List ℕ)) : Failure → Type 0 where
     on_hart : (answers : List HartAnswer) (hart : HartName) (rest : List Text) (one : Command) (failure : Failure)
         (part : Option (List ℕ)) → AreAnswered scripts traces command harts (hart.name.bytes ∷ rest) answers

@@ -1,25 +1,25 @@
--- What is known of the program's inputs, and what reading them answers.
+-- What is known of the program's inputs, and what reading them gives.
 use Rattle.std.specs.Prelude.{◌≡◌, ◌⊎◌, ℕ, ◌<◌, List, length, Option, Some, IfSome}
 use Rattle.pmp_text.specs.declared.refusal.Refusal.{Refusal}
 use Rattle.pmp_text.specs.declared.refusal.Refusal.TheVariants.{TooLong, Input, Memory}
 
--- the bytes at each path, where it is known what they are
+-- the bytes at each path, if known
 abbrev pub Inputs : Type 0
 Inputs = List ℕ → Option (List ℕ)
 
--- the names of the files of the folder at each path, or none where no folder is there, where that is known
+-- the file names of the folder at each path, or none if there is no folder, if known
 abbrev pub Folders : Type 0
 Folders = List ℕ → Option (Option (List (List ℕ)))
 
--- a folder with these files is at a path, as far as it is known, or none is
+-- a path is a folder with these files, or no folder, as far as known
 abbrev pub IsFolder : (known : Option (Option (List (List ℕ)))) → (found : Option (List (List ℕ))) → Type 0
 IsFolder known found = IfSome known (λ listed. found ≡ listed)
 
--- the bytes are those of an input, as far as they are known
+-- the bytes are an input's, as far as known
 abbrev pub AreBytesOf : Option (List ℕ) → List ℕ → Type 0
 AreBytesOf known bytes = IfSome known (λ those. bytes ≡ those)
 
--- a reader has these bytes left: those of an input, as far as they are known
+-- a reader has these bytes left: an input's, as far as known
 abbrev pub GivesBytesOf : (known remaining : Option (List ℕ)) → Type 0
 GivesBytesOf known remaining = IfSome known (λ those. remaining ≡ Some those)
 
@@ -27,7 +27,7 @@ GivesBytesOf known remaining = IfSome known (λ those. remaining ≡ Some those)
 abbrev pub CantBeOpened : Refusal → Type 0
 CantBeOpened refusal = (refusal ≡ Input) ⊎ (refusal ≡ Memory)
 
--- an input can't be read; one that is too long has more bytes than the limit, as far as they are known
+-- an input can't be read; one that is too long has more bytes than the limit, as far as known
 abbrev pub CantBeRead : (limit : ℕ) (known : Option (List ℕ)) → Refusal → Type 0
 CantBeRead limit known refusal =
     ((refusal ≡ TooLong) × IfSome known (λ bytes. limit < length bytes)) ⊎ CantBeOpened refusal

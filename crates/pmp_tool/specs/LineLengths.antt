@@ -1,4 +1,4 @@
--- How long the line is that tells of a refusal, and a note's.
+-- How long the line for a refusal is, and for a note.
 use Rattle.std.specs.Prelude.{ℕ, List, ◌<◌, ◌≤◌, ◌^◌, length, ⊤}
 use Rattle.pmp_text.specs.declared.refusal.Refusal.{Refusal}
 use Rattle.pmp_names.specs.declared.hart_name.TheConstants.{HART_NAME}
@@ -12,7 +12,7 @@ use Rattle.pmp_tool.specs.declared.note.Note.{Note}
 use Rattle.pmp_tool.specs.declared.note.Note.TheVariants as note
 use Rattle.pmp_tool.specs.declared.note.TheConstants.{LONGEST_NOTE}
 
--- each number of a place has 64 bits
+-- each number of a place fits in 64 bits
 abbrev pub IsNumbered : Place → Type 0
 IsNumbered (ScriptLine fault) = fault.line < 2 ^ 64
 IsNumbered (TraceRow fault) = fault.row < 2 ^ 64
@@ -25,11 +25,11 @@ IsNumbered (PlanRows one other) = (one < 2 ^ 64) × (other < 2 ^ 64)
 IsNumbered (PlanEntries row takes found) = (row < 2 ^ 64) × (takes < 2 ^ 64) × (found < 2 ^ 64)
 IsNumbered _ = ⊤
 
--- the line of a refusal, with its LF, fits the room that the program has for it
+-- a refusal's line, with its LF, fits in the program's buffer for it
 abbrev pub LineFitsLaw : Type 0
 LineFitsLaw = (refusal : Refusal) (place : Place) → IsNumbered place → length (line_text refusal place) ≤ LONGEST_LINE
 
--- and so does that of a hart of several
+-- and so does that for one of several harts
 abbrev pub HartLineFitsLaw : Type 0
 HartLineFitsLaw = (name : List ℕ) (refusal : Refusal) (place : Place) → length name ≤ HART_NAME → IsNumbered place
     → length (hart_line_text name refusal place) ≤ LONGEST_OF_HART

@@ -1,4 +1,4 @@
--- What a command answers of one hart, where rows may be to have names behind them.
+-- What a command returns for one hart, if names may follow its rows.
 use Rattle.std.specs.Prelude.{◌≡◌, ℕ, List, [], Option, Some, None}
 use Rattle.std.specs.Io.KnownBytes.{Appends, Keeps}
 use Rattle.pmp_text.specs.Bytes.{AppendsBeginning}
@@ -13,7 +13,7 @@ use Rattle.pmp_tool.specs.Inputs.{Inputs}
 use Rattle.pmp_tool.specs.Names.{named_by}
 
 module _ (scripts traces : Inputs) (command : Command) where
-  -- a command fails whose rows are kept in memory
+  -- a command fails while its rows are kept in memory
   pub record FailsApart (failure : Failure) : Type 0 where
     pub alone : Failure
     pub part : Option (List ℕ)
@@ -21,7 +21,7 @@ module _ (scripts traces : Inputs) (command : Command) where
     pub is : failure ≡ in_memory alone
 
   module _ (before after : Option (List ℕ)) where
-    -- rows that are to have names are kept in memory until all have theirs
+    -- rows to be named are kept in memory until all have names
     abbrev pub OneAnswer : Option Naming → Outcome → Type 0
     OneAnswer None outcome = CommandAnswers scripts traces command before after outcome
     OneAnswer (Some naming) outcome = (rows : List ℕ)

@@ -1,4 +1,4 @@
--- What the program notes beside an answer: what an import has guessed, or an address of 14 digits without `0x`, which is
+-- What the program notes besides an answer: what an import guessed, or an address of 14 digits without `0x`, which is
 -- read as decimal.
 use Rattle.std.specs.Prelude.{ℕ, List, [], ◌++◌, ◌==◌, codes, decimal, Option, Some, None, option_map, if◌then◌else◌}
 use Rattle.std.specs.Io.KnownBytes.{Keeps}
@@ -21,7 +21,7 @@ note_of _ = None
 abbrev pub as_decimal : List ℕ
 as_decimal = codes ": 14 digits without 0x are read as decimal; write 0x before a hexadecimal address"
 
--- where other harts have writes
+-- if other harts have writes
 abbrev pub left_text : (left : ℕ) → List ℕ
 left_text left = if left == 0 then [] else codes "; writes of other harts left out: " ++ decimal left
 
@@ -39,7 +39,7 @@ note_text (Scripts count) = codes "scripts written: " ++ decimal count
 abbrev pub note_line : Note → List ℕ
 note_line note = codes "pmp: note: " ++ (note_text note ++ codes "\n")
 
--- known bytes grow by the note, or by a beginning of it; where there is none they stay
+-- the note, or a prefix of it, is appended to known bytes; without a note they stay
 abbrev pub NotesIt : Option Note → (before after : Option (List ℕ)) → Type 0
 NotesIt None before after = Keeps before after
 NotesIt (Some note) before after = AppendsBeginning before after (note_line note)

@@ -1,4 +1,4 @@
--- What is said of a request, and why one gets no answer.
+-- What a request outputs, and why one fails.
 use Rattle.std.specs.Prelude.{◌≡◌, ℕ, List, length, Bool, ◌&&◌, nat_le, Option, Some, None, Result, Ok, Err, true}
 use Rattle.std.specs.Prelude.{false}
 use Rattle.std.specs.Prelude.{codes, bytes_eq, if◌then◌else◌}
@@ -55,7 +55,7 @@ use Rattle.pmp_tool.specs.Failures.{refused, unaudited, unimported, unplanned, u
 use Rattle.pmp_tool.specs.Inputs.{AreBytesOf, CantBeOpened, CantBeRead, Inputs}
 use Rattle.pmp_tool.specs.Words.{bad_word}
 
--- which side the command's script is on, where there are two
+-- which side the command's script is on, if there are two
 abbrev pub old_side : Request → Option Side
 old_side (Diff diff) = Some Old
 old_side _ = None
@@ -64,7 +64,7 @@ old_side _ = None
 abbrev pub has_names : (script : List ℕ) → Bool
 has_names script = nat_le (length script) MAX_HEADED_SCRIPT && is_headed script
 
--- the word of an argument names a moment only of a script whose version names any
+-- an argument names a moment only of a script whose version has named moments
 abbrev pub name_allowed : (script : List ℕ) → Argument → Option When → Result (Unit {0}) FaultLine
 name_allowed script argument None = Ok tt
 name_allowed script argument (Some (Number number)) = Ok tt
@@ -72,8 +72,8 @@ name_allowed script argument (Some (Labelled label)) = if has_names script then 
 
 -- ---- imports
 
--- what is said of the hart, and what the note says of that: a log on standard input is read once, and any other one
--- twice, first for what is guessed
+-- what is given for the hart, and what the note says of it: a log on standard input is read once, any other one twice,
+-- first to guess
 pub data IsGiven (known : Option (List ℕ)) (import : Import) : Given → Note → Type 0 where
   once : (given : Given) → bytes_eq import.log.now (codes "stdin") ≡ true
       → given ≡ given_alone import.format import.options
@@ -83,7 +83,7 @@ pub data IsGiven (known : Option (List ℕ)) (import : Import) : Given → Note 
       → given_for import.format import.options survey ≡ Ok given
       → IsGiven known import given (Guessed given.hart given.entries survey.left)
 
--- the text is the script of the log
+-- the text is the log's script
 pub record ImportSays (known : Option (List ℕ)) (import : Import) (note : Note) (text : List ℕ) : Type 0 where
   pub given : Given
   pub is_given : IsGiven known import given note
@@ -91,7 +91,7 @@ pub record ImportSays (known : Option (List ℕ)) (import : Import) (note : Note
   pub is_log : AreBytesOf known log
   pub gives : imported given (lines log) ≡ Ok text
 
--- why a log gives no script: nothing is written before it was found what is said of the hart
+-- why a log gives no script: nothing is written until it is known what is given for the hart
 pub data ImportFails (known : Option (List ℕ)) (import : Import) (before after : Option (List ℕ)) : Failure → Type 0
   where
     unopened : (fault : Refusal) → CantBeOpened fault → Keeps before after
@@ -109,7 +109,7 @@ pub data ImportFails (known : Option (List ℕ)) (import : Import) (before after
 
 -- ---- answers
 
--- which text goes with which outcome of a request of this script
+-- which text belongs to which outcome of a request for this script
 abbrev pub RequestSays : (scripts traces : Inputs) (script : List ℕ) → Request → Outcome → (text : List ℕ) → Type 0
 RequestSays scripts traces script (Check check) (Decided decision asked) text =
     (asked ≡ check) × CheckSays script check.access check.after decision text
@@ -134,30 +134,30 @@ RequestSays scripts traces text (Plan plan) Listed written = Tells plan.hart pla
 RequestSays scripts traces script PlanOf Listed text = IsPlanOfScript script text
 RequestSays _ _ _ _ _ _ = ⊥
 
--- which faults an audit is refused for; several checkers may lack a place
+-- which faults an audit is refused for; several checkers may also lack a place
 abbrev pub AuditByRefuses : (checkers : Option ℕ) (script trace : List ℕ) → AuditFault → Type 0
 AuditByRefuses None script trace fault = AuditRefuses script trace fault
 AuditByRefuses (Some count) script trace fault = SharedAuditRefuses script trace fault
 
--- a script can't be read, which of two is the one on a side
+-- a script can't be read, of two the one on this side
 abbrev pub IsUnread : (known : Option (List ℕ)) (side : Option Side) → Failure → Type 0
 IsUnread known side failure = (fault : Refusal) × CantBeRead MAX_HEADED_SCRIPT known fault × (failure ≡ unread fault side)
 
--- the fault of a plan, or of a script whose plan is asked for, is the failure
+-- the failure is the fault of a plan, or of a script whose plan is asked for
 pub record IsUnplanned (Fails : AnswerFault → Type 0) (failure : Failure) : Type 0 where
   pub fault : AnswerFault
   pub is : failure ≡ unplanned fault
   pub fails : Fails fault
 
 module _ (before after : Option (List ℕ)) where
-  -- a call refuses what it is given before a byte is written, or memory or the output failed
+  -- a call refuses its inputs before a byte is written, or memory or the output failed
   pub record Declines {A : Type 0} (Says : A → List ℕ → Type 0) (Refuses : AuditFault → Type 0)
       (failure : Failure) : Type 0 where
     pub fault : AuditFault
     pub is : failure ≡ unaudited fault
     pub refused : IsRefused Says before after Refuses fault
 
-  -- an input can't be taken, of two scripts the one on a side, or what is done with its bytes fails
+  -- an input can't be taken, of two scripts the one on this side, or processing its bytes fails
   pub data InputFails (CantBeTaken : Refusal → Type 0) (known : Option (List ℕ)) (side : Option Side)
       (Fails : List ℕ → Failure → Type 0) : Failure → Type 0 where
     untaken : (fault : Refusal) → CantBeTaken fault → Keeps before after
@@ -165,15 +165,15 @@ module _ (before after : Option (List ℕ)) where
     taken : (bytes : List ℕ) (failure : Failure) → AreBytesOf known bytes → Fails bytes failure
         → InputFails CantBeTaken known side Fails failure
 
-  -- the same of a trace or a policy that is read whole
+  -- the same for a trace or a policy, which is read whole
   abbrev pub TraceFails : (known : Option (List ℕ)) → (List ℕ → Failure → Type 0) → Failure → Type 0
   TraceFails known = InputFails (CantBeRead MAX_TRACE known) known None
 
-  -- and of a script, which of two is the one on a side
+  -- and for a script, of two the one on this side
   abbrev pub ScriptFails : (known : Option (List ℕ)) → Option Side → (List ℕ → Failure → Type 0) → Failure → Type 0
   ScriptFails known = InputFails (CantBeRead MAX_HEADED_SCRIPT known) known
 
-  -- the word of an argument names a moment of a script whose version names none, or what is done then fails
+  -- an argument names a moment of a script whose version has none, or what follows fails
   pub data MomentFails (script : List ℕ) (argument : Argument) (when : Option When) (Fails : Failure → Type 0)
       : Failure → Type 0 where
     unnamed : (fault : FaultLine) → name_allowed script argument when ≡ Err fault → Keeps before after
@@ -181,14 +181,14 @@ module _ (before after : Option (List ℕ)) where
     allowed : (failure : Failure) → name_allowed script argument when ≡ Ok tt → Fails failure
         → MomentFails script argument when Fails failure
 
-  -- a long audit stops, maybe behind whole rows
+  -- a long audit stops, perhaps after whole rows
   pub record StopsInTrace (script : List ℕ) (first : ℕ) (trace : List ℕ) (failure : Failure) : Type 0 where
     pub fault : AuditFault
     pub is : failure ≡ unaudited fault
     pub stops : StopsLong PIECE script first trace before after fault
 
   module _ (scripts traces : Inputs) (script : List ℕ) where
-    -- why what is asked for of a script gets no answer
+    -- why a request for a script fails
     abbrev pub RequestFails : Request → Failure → Type 0
     RequestFails (Check check) =
         MomentFails script argument.After check.after

@@ -1,4 +1,4 @@
--- What an export answers, by its status and the room of its answer.
+-- What an export returns: its status, and the room of its answer.
 use Rattle.std.specs.Prelude.{◌≡◌, ◌⊎◌, ◌+◌, ℕ, List, [], length, Ok, Option, Some, None, decimal, true, false}
 use Rattle.pmp_core.specs.declared.access.Access.{Access}
 use Rattle.pmp_core.specs.declared.decision.Decision.{Decision}
@@ -40,7 +40,7 @@ side_number (BadAfterOf New) = 256
 side_number (NoMomentOf New) = 256
 side_number _ = 0
 
--- the number of a refusal, to which 256 is added where it is one of the new script
+-- the number of a refusal, plus 256 if it is the new script's
 abbrev pub told_number : AuditFault → ℕ
 told_number fault = side_number fault + number_of (refusal_of fault)
 
@@ -57,18 +57,18 @@ pub record IsRefusal (Refuses : AuditFault → Type 0) (status : ℕ) (answer : 
   pub line : answer.line ≡ line_of fault
   pub empty : text_in answer ≡ []
 
--- the numbers of the question name nothing; no line is at fault, and the room is empty
+-- the numbers name no question; no line is at fault, and the room is empty
 pub record IsUnasked (refusal : Refusal) (status : ℕ) (answer : Answer) : Type 0 where
   pub status_is : status ≡ number_of refusal
   pub line : answer.line ≡ 0
   pub empty : text_in answer ≡ []
 
--- the room holds a text of which Says is true, and no line is at fault, or the call refuses
+-- the room holds a text that satisfies Says, and no line is at fault, or the call refuses
 abbrev pub Answers : (Says : List ℕ → Type 0) → (Refuses : AuditFault → Type 0) → (status : ℕ) → Answer → Type 0
 Answers Says Refuses status answer =
     ((status ≡ 0) × (answer.line ≡ 0) × Says (text_in answer)) ⊎ IsRefusal Refuses status answer
 
--- the script means this, and the text is the number of its publications
+-- the script has these contents, and the text is the number of its publications
 pub record CountSays (script text : List ℕ) : Type 0 where
   pub contents : ScriptContents
   pub script_means : script_meaning script ≡ Ok contents
@@ -83,14 +83,14 @@ abbrev pub CheckAnswerSays : (script : List ℕ) → Access → (after : ℕ) �
 CheckAnswerSays script access after text = (decision : Decision)
     × CheckSays script access (Some (Number after)) decision text
 
--- the numbers name an access, and it is answered, or they name none
+-- the numbers name an access, which is answered, or they name none
 abbrev pub AnswersCheck : (script : List ℕ) → (after mode kind start length status : ℕ) → Answer → Type 0
 AnswersCheck script after mode kind start length status answer =
     ((access : Access) × IsNamed access mode kind start length
     × Answers (CheckAnswerSays script access after) (FileRefuses script (Some (Number after))) status answer)
     ⊎ ((refusal : Refusal) × NamesNone mode kind start length refusal × IsUnasked refusal status answer)
 
--- what the number asks for is shown, or it names nothing
+-- the view that the number names is shown, or it names none
 abbrev pub AnswersView : (script : List ℕ) → (after : ℕ) → Option View → (status : ℕ) → Answer → Type 0
 AnswersView script after None status answer = IsUnasked BadWord status answer
 AnswersView script after (Some view) status answer =
@@ -116,7 +116,7 @@ DiffAnswerSays old old_after new new_after text =
 
 -- ---- logs
 
--- nothing is asked for, and the hart has Smepmp
+-- no options are given, and the hart has Smepmp
 abbrev pub guessed : Options
 guessed = record {
   hart = None;
@@ -128,7 +128,7 @@ guessed = record {
   bursts = false;
 }
 
--- the log has no script, with the number of the refusal and its line, and the room is empty
+-- the log gives no script; status and line are the refusal's, and the room is empty
 pub record IsNoLog (format : Format) (log : List ℕ) (status : ℕ) (answer : Answer) : Type 0 where
   pub fault : ImportFault
   pub why : GivesNone format guessed (lines log) fault
@@ -136,7 +136,7 @@ pub record IsNoLog (format : Format) (log : List ℕ) (status : ℕ) (answer : A
   pub line : answer.line ≡ fault.line
   pub empty : text_in answer ≡ []
 
--- the room holds the script of a log of the form that the number names, or it names none
+-- the room holds the script of a log of the format that the number names, or it names none
 abbrev pub AnswersImport : (log : List ℕ) → Option Format → (status : ℕ) → Answer → Type 0
 AnswersImport log None status answer = IsUnasked BadWord status answer
 AnswersImport log (Some format) status answer =

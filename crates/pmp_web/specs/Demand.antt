@@ -1,4 +1,4 @@
--- What a row of a policy by numbers demands, and when its numbers name nothing.
+-- What a policy's row given by numbers demands, and when its numbers name nothing.
 use Rattle.std.specs.Prelude.{ℕ, ◌/◌, ◌%◌, ◌==◌, ◌||◌, nat_lt, Option, Some, None, if◌then◌else◌, false}
 use Rattle.pmp_core.specs.declared.access.Kind.TheVariants.{Fetch, Load, Store}
 use Rattle.pmp_text.specs.declared.moments.Coming.TheVariants.{Met}
@@ -21,7 +21,7 @@ modes_of number =
       user = number % 2 == 1;
     })
 
--- as the kinds of an access are numbered, and 3 for each of the three
+-- the numbers of an access's kinds, and 3 for any kind
 abbrev pub kinds_of : ℕ → Option Kinds
 kinds_of number =
     if number == 0 then Some (One Fetch) else (if number == 1 then Some (One Load)
@@ -35,7 +35,7 @@ demand_of number =
 abbrev pub pace_of : ℕ → Option Pace
 pace_of number = if number == 0 then Some Publications else (if number == 1 then Some Events else None)
 
--- what the numbers name, if each does: numbers have no digits
+-- what the numbers name, if all name something; none is bare
 abbrev pub question_by : Demand → Option Modes → Option Kinds → Option policy.Demand → Option Pace → Option Question
 question_by room (Some modes) (Some kinds) (Some demand) (Some pace) = Some (record {
   pace = pace;

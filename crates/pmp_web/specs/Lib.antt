@@ -1,4 +1,4 @@
--- What a reader has to believe: what each export answers.
+-- What a reader must trust: what each export returns.
 pub mod Rooms
 pub mod Request
 pub mod Demand

@@ -12,11 +12,11 @@ use Rattle.pmp_import.specs.declared.format.Format.{Format}
 use Rattle.pmp_import.specs.declared.format.Format.TheVariants.{Qemu, Gdb, OpenOcd, Spike, Dump}
 use Rattle.pmp_audit.specs.declared.view.View.TheVariants.{Runs, Picture, Entries, Registers}
 
--- there is a mode and a kind with these numbers
+-- some mode and some kind have these numbers
 abbrev pub AreNamed : (mode kind : ℕ) → Type 0
 AreNamed mode kind = (m : Mode) × (k : Kind) × (mode_number m ≡ mode) × (kind_number k ≡ kind)
 
--- the refusal of numbers that name no access: of the mode or the kind, else of the bytes
+-- the refusal of numbers that name no access: for the mode or the kind, else for the bytes
 abbrev pub NamesNone : (mode kind start length : ℕ) → Refusal → Type 0
 NamesNone mode kind start length refusal =
     ((refusal ≡ BadWord) × ¬ (AreNamed mode kind))

@@ -1,4 +1,4 @@
--- The texts that rooms hold: their first bytes, as many as they say, or as they have.
+-- The texts that rooms hold: as many of their first bytes as their length says, or as they have.
 use Rattle.std.specs.Prelude.{ℕ, List, take}
 use Rattle.pmp_web.specs.declared.rooms.Answer.{Answer}
 use Rattle.pmp_web.specs.declared.rooms.Script.{Script}

@@ -1,4 +1,4 @@
--- Reading a script line by line, behind its first significant line.
+-- Reading a script line by line, after its first significant line.
 use Rattle.std.specs.Prelude.{ℕ, List, [], ◌∷◌, ◌++◌, length, Option, Some, None, Result, Ok, Err, unwrap_or}
 use Rattle.std.specs.Prelude.{◌+◌, Bool, true, false, fold}
 use Rattle.std.specs.List.{list_any}
@@ -52,7 +52,7 @@ published so_far = record {
   since = None;
 }
 
--- an event joins the open batch
+-- an event is added to the open batch
 abbrev pub longer : Progress → ℕ → Event → Progress
 longer so_far number event = record {
   published = so_far.published;
@@ -91,7 +91,7 @@ after_head head number says =
 
 -- ---- all
 
--- what was read, how many events and how many publications that is, and the moments that have names
+-- what was read, the numbers of its events and publications, and the moments with names
 pub record Reading : Type 0 where
   pub progress : Progress
   pub head : HeadSoFar
@@ -100,7 +100,7 @@ pub record Reading : Type 0 where
   pub marks : List Mark
   pub done : ℕ
 
--- what is read in the end
+-- what was read in the end
 pub record Read : Type 0 where
   pub published : Publications
   pub head : List HeadLine
@@ -144,7 +144,7 @@ after_event version so_far number event =
     let flaw = event_flaw version (profile_said so_far.head.lines).is_rv32 event in
     unless number (event_fault flaw (length so_far.progress.batch) so_far.events) (with_event so_far number event)
 
--- what reading a line with this number makes of it, by what the line says
+-- the result of reading a line with this number and meaning
 abbrev pub after_statement : Version → Reading → ℕ → Result Statement Flaw → Result Reading ScriptFault
 after_statement version so_far number (Err flaw) = Err (at_line number flaw)
 after_statement version so_far number (Ok (statement.Publish name)) =
@@ -160,7 +160,7 @@ after_statement version so_far number (Ok (statement.Expect register value)) =
 abbrev pub after_line : Version → Reading → Line → Result Reading ScriptFault
 after_line version so_far line = after_statement version so_far line.number (said_by version line)
 
--- what was read, where the text ends; an event line that no `publish` follows is at fault, the first of them
+-- what was read when the text ends; the first event line that no `publish` follows is at fault
 abbrev pub all_published : Option ℕ → Read → Result Read ScriptFault
 all_published None read = Ok read
 all_published (Some number) read = Err (at_line number (as_whole Unpublished))
@@ -176,7 +176,7 @@ read_in so_far = record {
 abbrev pub finished : Reading → Result Read ScriptFault
 finished so_far = all_published so_far.progress.since (read_in so_far)
 
--- what comes of reading these lines next, to the end, all of them in longhand
+-- the result of reading these lines to the end, all of them in longhand
 abbrev pub resumed : Version → Reading → List Line → Result Read ScriptFault
 resumed version so_far [] = finished so_far
 resumed version so_far (line ∷ more) =
@@ -184,7 +184,7 @@ resumed version so_far (line ∷ more) =
 
 -- ---- shorthands
 
--- what reading these lines makes of it
+-- the result of reading these lines
 abbrev pub after_lines : Version → Reading → List Line → Result Reading ScriptFault
 after_lines version so_far [] = Ok so_far
 after_lines version so_far (line ∷ more) =
@@ -194,7 +194,7 @@ after_lines version so_far (line ∷ more) =
 abbrev pub events_read : Progress → List Event
 events_read so_far = joined so_far.published.batches ++ so_far.batch
 
--- the register file that they leave
+-- the register file after them
 abbrev pub file_now : Reading → RegisterFile
 file_now so_far = fold step (file_said so_far.head.lines) (events_read so_far.progress)
 
@@ -202,7 +202,7 @@ abbrev pub longhand_now : Version → Reading → Line → List Line
 longhand_now (Sized size) so_far line = line ∷ []
 longhand_now Headed so_far line = longhand (file_now so_far) line
 
--- what comes of reading these lines next, to the end, each in longhand
+-- the result of reading these lines to the end, each put in longhand
 abbrev pub read_on : Version → Reading → List Line → Result Read ScriptFault
 read_on version so_far [] = finished so_far
 read_on version so_far (line ∷ more) = elim (after_lines version so_far (longhand_now version so_far line)) [
@@ -210,7 +210,7 @@ read_on version so_far (line ∷ more) = elim (after_lines version so_far (longh
   | Err fault ↦ Err fault
 ]
 
--- what a script means of which this was read
+-- the meaning of a script of which this was read
 abbrev pub concluded : Version → Result Read ScriptFault → Result ScriptContents ScriptFault
 concluded version (Err fault) = Err fault
 concluded (Sized size) (Ok read) = Ok (record {

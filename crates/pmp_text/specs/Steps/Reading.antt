@@ -1,4 +1,4 @@
--- What a log and the batch that is open in it say of a script that is being read.
+-- What a log and its open batch give of a script that is being read.
 use Rattle.std.specs.Prelude.{◌≡◌, IfSome, drop, fold, length}
 use Rattle.pmp_core.specs.RegisterWrite.{step}
 use Rattle.pmp_text.specs.declared.script.head.Head.{Head}
@@ -10,7 +10,7 @@ use Rattle.pmp_text.specs.Longhand.{file_said}
 use Rattle.pmp_text.specs.Steps.Cuts.{AreOpen, cut_from}
 use Rattle.pmp_text.specs.Steps.Progress.{HeadSoFar, Progress, Reading}
 
--- the publications that end in the log, and the events behind them
+-- the publications that end in the log, and the events after them
 abbrev pub progress_of : Kept → OpenBatch → Progress
 progress_of kept open_batch = record {
   published = record {
@@ -27,15 +27,15 @@ abbrev pub IsOpen : Kept → OpenBatch → Type 0
 IsOpen kept open_batch =
     AreOpen kept.ends open_batch.published (length kept.events) (length kept.lines) open_batch.since
 
--- what a head says
+-- what a head gives
 abbrev pub head_of : Head → HeadSoFar
 head_of head = record { lines = head.lines.items; is_over = head.is_over }
 
--- it has what its lines say of the hart
+-- it has the hart that its lines give
 abbrev pub IsHead : Head → Type 0
 IsHead head = head.said ≡ profile_said head.lines.items
 
--- what the log, the open batch in it and the head say
+-- what the log, its open batch and the head give
 abbrev pub reading_of : Kept → ScriptReading → Reading
 reading_of kept reading = record {
   progress = progress_of kept reading.batch;
@@ -46,7 +46,7 @@ reading_of kept reading = record {
   done = length kept.ends;
 }
 
--- the register file, where it is known, is the one that the events of the log leave
+-- the register file, if it is known, is the one after the events of the log
 pub record IsReading (kept : Kept) (reading : ScriptReading) : Type 0 where
   pub batch : IsOpen kept reading.batch
   pub head : IsHead reading.head

@@ -26,7 +26,7 @@ bytes_left reader = source_of (λ rest. Some rest.now) reader
 abbrev pub records_left : Reader (Bor (List ℕ)) → List (List (List ℕ))
 records_left reader = records_known (reader_state reader) (bytes_left reader)
 
--- a reader with the defaults goes through a text
+-- a reader with the defaults reads a text
 pub record IsReading (reader : Reader (Bor (List ℕ))) : Type 0 where
   pub ready : Ready reader
   pub config : reader_config reader ≡ default_config
@@ -38,12 +38,12 @@ pub record RecordsLeft : Type 0 where
   pub left : List (List (List ℕ))
   pub fields : List (List ℕ)
 
--- the records of the lines that are left, or where none are read as lines, those that are left
+-- the records of the lines that are left, or if none are read as lines, the records that are left
 abbrev pub lines_or : Option (Bor (List ℕ)) → (left : List (List (List ℕ))) → List (List (List ℕ))
 lines_or (Some lines) left = records_of lines.now
 lines_or None left = left
 
--- beside a script with these moments the next record says this, and the others come behind it
+-- for a script with these moments, the next record means this, and the others follow it
 abbrev pub IsNext : KnownMoments → (before : List (List (List ℕ))) → Result RowFields Flaw
     → (after : List (List (List ℕ))) → Type 0
 IsNext moments before said after =

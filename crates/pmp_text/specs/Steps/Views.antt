@@ -1,4 +1,4 @@
--- What the reader's iterators stand for.
+-- What the reader's iterators represent.
 use Rattle.std.specs.Prelude.{ℕ, ◌+◌, List, [], ◌∷◌, Option, Some, None}
 use Rattle.pmp_text.specs.declared.script.significant.NumberedLine.{NumberedLine}
 use Rattle.pmp_text.specs.declared.script.significant.SignificantLines.{SignificantLines}
@@ -45,7 +45,7 @@ seen_seven words = record {
   demand = words.demand.now;
 }
 
--- and with a name and a comment
+-- the same with a name and a comment
 abbrev pub seen_nine : LabeledWords → NineFields
 seen_nine all = record { name = all.name.now; words = seen_seven all.words; comment = all.comment.now }
 
@@ -61,7 +61,7 @@ seven_at (Some from) (Some to) (Some modes) (Some kind) (Some first) (Some last)
 })
 seven_at _ _ _ _ _ _ _ = None
 
--- seven fields of a record, from the one with this index on
+-- seven fields of a record, from this index on
 abbrev pub seven_from : List (List ℕ) → (first : ℕ) → Option SevenFields
 seven_from fields first = seven_at (field_at fields first) (field_at fields (first + 1)) (field_at fields (first + 2))
     (field_at fields (first + 3)) (field_at fields (first + 4)) (field_at fields (first + 5))
