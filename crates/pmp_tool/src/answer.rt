@@ -42,9 +42,11 @@ pub fn answer<R: Threads + Wait + Sync, I: Inputs, O: Write>(
     inputs: &mut I,
     out: &mut O,
 ) -> Result<Outcome, Failure>
-    ensures ok { IfOk result (CommandAnswers (I.scripts inputs.old) (traces_for naming.entry (I.traces inputs.old)) command.entry
+    ensures ok { IfOk result (CommandAnswers (I.scripts inputs.old)
+        (traces_for naming.entry (I.traces inputs.old)) command.entry
         (O.contents out.old) (O.contents out.new)) }
-    ensures err { IfErr result (CommandFails (I.scripts inputs.old) (traces_for naming.entry (I.traces inputs.old)) command.entry
+    ensures err { IfErr result (CommandFails (I.scripts inputs.old)
+        (traces_for naming.entry (I.traces inputs.old)) command.entry
         (O.contents out.old) (O.contents out.new)) }
     ensures scripts { I.scripts inputs.new ≡ I.scripts inputs.old }
     ensures traces { I.traces inputs.new ≡ I.traces inputs.old }
@@ -63,7 +65,8 @@ fn answer_request<R: Threads + Wait + Sync, I: Inputs, O: Write>(
     inputs: &mut I,
     out: &mut O,
 ) -> Result<Outcome, Failure>
-    ensures ok { IfOk result (IsWritten (RequestSays (I.scripts inputs.old) (traces_for naming.entry (I.traces inputs.old)) script.now
+    ensures ok { IfOk result (IsWritten (RequestSays (I.scripts inputs.old)
+        (traces_for naming.entry (I.traces inputs.old)) script.now
         request.entry) (O.contents out.old) (O.contents out.new)) }
     ensures err { IfErr result (RequestFails (O.contents out.old) (O.contents out.new) (I.scripts inputs.old)
         (traces_for naming.entry (I.traces inputs.old)) script.now request.entry) }
@@ -189,7 +192,8 @@ fn answer_audit<R: Threads + Wait + Sync, I: Inputs, O: Write>(
     inputs: &mut I,
     out: &mut O,
 ) -> Result<Outcome, Failure>
-    ensures ok { IfOk result (IsWritten (RequestSays (I.scripts inputs.old) (traces_for naming.entry (I.traces inputs.old)) script.now
+    ensures ok { IfOk result (IsWritten (RequestSays (I.scripts inputs.old)
+        (traces_for naming.entry (I.traces inputs.old)) script.now
         (request.Audit asked.entry)) (O.contents out.old) (O.contents out.new)) }
     ensures err { IfErr result (RequestFails (O.contents out.old) (O.contents out.new) (I.scripts inputs.old)
         (traces_for naming.entry (I.traces inputs.old)) script.now (request.Audit asked.entry)) }
@@ -214,7 +218,8 @@ fn answer_long_audit<R: Threads + Wait + Sync, I: Inputs, O: Write>(
     inputs: &mut I,
     out: &mut O,
 ) -> Result<Outcome, Failure>
-    ensures ok { IfOk result (IsWritten (RequestSays (I.scripts inputs.old) (traces_for naming.entry (I.traces inputs.old)) script.now
+    ensures ok { IfOk result (IsWritten (RequestSays (I.scripts inputs.old)
+        (traces_for naming.entry (I.traces inputs.old)) script.now
         (request.LongAudit asked.entry)) (O.contents out.old) (O.contents out.new)) }
     ensures err { IfErr result (RequestFails (O.contents out.old) (O.contents out.new) (I.scripts inputs.old)
         (traces_for naming.entry (I.traces inputs.old)) script.now (request.LongAudit asked.entry)) }
@@ -237,7 +242,8 @@ fn answer_policy<I: Inputs, O: Write>(
     inputs: &mut I,
     out: &mut O,
 ) -> Result<Outcome, Failure>
-    ensures ok { IfOk result (IsWritten (RequestSays (I.scripts inputs.old) (traces_for naming.entry (I.traces inputs.old)) script.now
+    ensures ok { IfOk result (IsWritten (RequestSays (I.scripts inputs.old)
+        (traces_for naming.entry (I.traces inputs.old)) script.now
         (request.Policy path.entry pace)) (O.contents out.old) (O.contents out.new)) }
     ensures err { IfErr result (RequestFails (O.contents out.old) (O.contents out.new) (I.scripts inputs.old)
         (traces_for naming.entry (I.traces inputs.old)) script.now (request.Policy path.entry pace)) }
@@ -287,7 +293,8 @@ fn answer_import<I: Inputs, O: Write>(
     inputs: &mut I,
     out: &mut O,
 ) -> Result<Outcome, Failure>
-    ensures ok { (script : List ℕ) → IfOk result (IsWritten (RequestSays (I.scripts inputs.old) (traces_for naming.entry (I.traces inputs.old))
+    ensures ok { (script : List ℕ) → IfOk result (IsWritten (RequestSays (I.scripts inputs.old)
+        (traces_for naming.entry (I.traces inputs.old))
         script (request.Import asked.entry)) (O.contents out.old) (O.contents out.new)) }
     ensures err { (script : List ℕ) → IfErr result (RequestFails (O.contents out.old) (O.contents out.new)
         (I.scripts inputs.old) (traces_for naming.entry (I.traces inputs.old)) script (request.Import asked.entry)) }
@@ -307,8 +314,10 @@ fn given_of<I: Inputs>(
     naming: Option<Naming<'_>>,
     inputs: &mut I,
 ) -> Result<(Given, Note), Failure>
-    ensures ok { IfOk result (λ both. IsGiven (traces_for naming.entry (I.traces inputs.old) asked.entry.log.now) asked.entry both.0 both.1) }
-    ensures err { (out : Option (List ℕ)) → IfErr result (ImportFails (traces_for naming.entry (I.traces inputs.old) asked.entry.log.now)
+    ensures ok { IfOk result (λ both. IsGiven (traces_for naming.entry (I.traces inputs.old) asked.entry.log.now)
+        asked.entry both.0 both.1) }
+    ensures err { (out : Option (List ℕ)) → IfErr result (ImportFails
+        (traces_for naming.entry (I.traces inputs.old) asked.entry.log.now)
         asked.entry out out) }
     ensures scripts { I.scripts inputs.new ≡ I.scripts inputs.old }
     ensures traces { I.traces inputs.new ≡ I.traces inputs.old }
@@ -329,7 +338,8 @@ fn script_of<I: Inputs>(
     inputs: &mut I,
     command: Command<'_>,
 ) -> Result<Vec<u8>, Failure>
-    ensures read { IfOk result (λ bytes. IsScriptOf command.entry.request (I.scripts inputs.old command.entry.script.now)
+    ensures read { IfOk result (λ bytes. IsScriptOf command.entry.request (I.scripts inputs.old
+        command.entry.script.now)
         bytes.items) }
     ensures unread { IfErr result (IsUnread (I.scripts inputs.old command.entry.script.now)
         (old_side command.entry.request)) }

@@ -73,9 +73,11 @@ pub fn answer_apart<R: Threads + Wait + Sync, I: Inputs>(
     naming: Option<Naming<'_>>,
     inputs: &mut I,
 ) -> Result<(Outcome, Vec<u8>), Failure>
-    ensures ok { IfOk result (λ both. CommandAnswers (I.scripts inputs.old) (traces_for naming.entry (I.traces inputs.old)) command.entry
+    ensures ok { IfOk result (λ both. CommandAnswers (I.scripts inputs.old)
+        (traces_for naming.entry (I.traces inputs.old)) command.entry
         (Some []) (Some both.1.items) both.0) }
-    ensures err { IfErr result (FailsApart (I.scripts inputs.old) (traces_for naming.entry (I.traces inputs.old)) command.entry) }
+    ensures err { IfErr result (FailsApart (I.scripts inputs.old)
+        (traces_for naming.entry (I.traces inputs.old)) command.entry) }
     ensures scripts { I.scripts inputs.new ≡ I.scripts inputs.old }
     ensures traces { I.traces inputs.new ≡ I.traces inputs.old }
 {
@@ -95,9 +97,11 @@ pub fn answer_one<R: Threads + Wait + Sync, I: Inputs, O: Write>(
     inputs: &mut I,
     out: &mut O,
 ) -> Result<Outcome, Failure>
-    ensures ok { IfOk result (OneAnswer (I.scripts inputs.old) (traces_for naming.entry (I.traces inputs.old)) command.entry
+    ensures ok { IfOk result (OneAnswer (I.scripts inputs.old)
+        (traces_for naming.entry (I.traces inputs.old)) command.entry
         (O.contents out.old) (O.contents out.new) naming.entry) }
-    ensures err { IfErr result (OneFails (I.scripts inputs.old) (traces_for naming.entry (I.traces inputs.old)) command.entry
+    ensures err { IfErr result (OneFails (I.scripts inputs.old)
+        (traces_for naming.entry (I.traces inputs.old)) command.entry
         (O.contents out.old) (O.contents out.new) naming.entry) }
     ensures scripts { I.scripts inputs.new ≡ I.scripts inputs.old }
 {
@@ -116,9 +120,11 @@ fn answer_named<R: Threads + Wait + Sync, I: Inputs, O: Write>(
     inputs: &mut I,
     out: &mut O,
 ) -> Result<Outcome, Failure>
-    ensures ok { IfOk result (OneAnswer (I.scripts inputs.old) (traces_for (Some naming.entry) (I.traces inputs.old)) command.entry
+    ensures ok { IfOk result (OneAnswer (I.scripts inputs.old)
+        (traces_for (Some naming.entry) (I.traces inputs.old)) command.entry
         (O.contents out.old) (O.contents out.new) (Some naming.entry)) }
-    ensures err { IfErr result (OneFails (I.scripts inputs.old) (traces_for (Some naming.entry) (I.traces inputs.old)) command.entry
+    ensures err { IfErr result (OneFails (I.scripts inputs.old)
+        (traces_for (Some naming.entry) (I.traces inputs.old)) command.entry
         (O.contents out.old) (O.contents out.new) (Some naming.entry)) }
     ensures scripts { I.scripts inputs.new ≡ I.scripts inputs.old }
 {
@@ -137,9 +143,11 @@ fn answer_alone<R: Threads + Wait + Sync, I: Inputs>(
     hart: &HartName,
     inputs: &mut I,
 ) -> Result<(Outcome, Vec<u8>), Failure>
-    ensures ok { IfOk result (λ both. CommandAnswers (I.scripts inputs.old) (traces_for naming.entry (I.traces inputs.old)) command.entry
+    ensures ok { IfOk result (λ both. CommandAnswers (I.scripts inputs.old)
+        (traces_for naming.entry (I.traces inputs.old)) command.entry
         (Some []) (Some both.1.items) both.0) }
-    ensures err { IfErr result (λ failure. (alone : Failure) × FailsApart (I.scripts inputs.old) (traces_for naming.entry (I.traces inputs.old))
+    ensures err { IfErr result (λ failure. (alone : Failure) × FailsApart (I.scripts inputs.old)
+        (traces_for naming.entry (I.traces inputs.old))
         command.entry alone × (failure ≡ of_hart hart.now.name alone)) }
     ensures scripts { I.scripts inputs.new ≡ I.scripts inputs.old }
     ensures traces { I.traces inputs.new ≡ I.traces inputs.old }
@@ -162,9 +170,11 @@ fn answer_on<R: Threads + Wait + Sync, I: Inputs>(
     inputs: &mut I,
     rows: &mut Vec<u8>,
 ) -> Result<Outcome, Failure>
-    ensures ok { IfOk result (IsAnsweredOn (I.scripts inputs.old) (traces_for naming.entry (I.traces inputs.old)) command.entry naming.entry harts.now
+    ensures ok { IfOk result (IsAnsweredOn (I.scripts inputs.old)
+        (traces_for naming.entry (I.traces inputs.old)) command.entry naming.entry harts.now
         hart.now.name.bytes rows.old.items rows.new.items) }
-    ensures err { IfErr result (FailsOn (I.scripts inputs.old) (traces_for naming.entry (I.traces inputs.old)) command.entry harts.now hart.now) }
+    ensures err { IfErr result (FailsOn (I.scripts inputs.old)
+        (traces_for naming.entry (I.traces inputs.old)) command.entry harts.now hart.now) }
     ensures scripts { I.scripts inputs.new ≡ I.scripts inputs.old }
     ensures traces { I.traces inputs.new ≡ I.traces inputs.old }
 {
@@ -191,9 +201,11 @@ pub fn answer_harts<R: Threads + Wait + Sync, I: Inputs, O: Write>(
     inputs: &mut I,
     out: &mut O,
 ) -> Result<Outcome, Failure>
-    ensures ok { IfOk result (HartsAnswer (I.scripts inputs.old) (traces_for naming.entry (I.traces inputs.old)) command.entry naming.entry harts.now
+    ensures ok { IfOk result (HartsAnswer (I.scripts inputs.old)
+        (traces_for naming.entry (I.traces inputs.old)) command.entry naming.entry harts.now
         (O.contents out.old) (O.contents out.new)) }
-    ensures err { IfErr result (HartsFail (I.scripts inputs.old) (traces_for naming.entry (I.traces inputs.old)) command.entry naming.entry harts.now
+    ensures err { IfErr result (HartsFail (I.scripts inputs.old)
+        (traces_for naming.entry (I.traces inputs.old)) command.entry naming.entry harts.now
         (O.contents out.old) (O.contents out.new)) }
     ensures scripts { I.scripts inputs.new ≡ I.scripts inputs.old }
 {

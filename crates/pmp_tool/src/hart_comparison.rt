@@ -44,9 +44,11 @@ pub fn answer_folder<R: Threads + Wait + Sync, I: Inputs, O: Write>(
     inputs: &mut I,
     out: &mut O,
 ) -> Result<Outcome, Failure>
-    ensures ok { IfOk result (FolderAnswer (I.scripts inputs.old) (traces_for naming.entry (I.traces inputs.old)) command.entry naming.entry harts
+    ensures ok { IfOk result (FolderAnswer (I.scripts inputs.old)
+        (traces_for naming.entry (I.traces inputs.old)) command.entry naming.entry harts
         (O.contents out.old) (O.contents out.new)) }
-    ensures err { IfErr result (FolderFails (I.scripts inputs.old) (traces_for naming.entry (I.traces inputs.old)) command.entry naming.entry harts
+    ensures err { IfErr result (FolderFails (I.scripts inputs.old)
+        (traces_for naming.entry (I.traces inputs.old)) command.entry naming.entry harts
         (O.contents out.old) (O.contents out.new)) }
     ensures scripts { I.scripts inputs.new ≡ I.scripts inputs.old }
 {
@@ -67,9 +69,11 @@ fn compare_harts<R: Threads + Wait + Sync, I: Inputs, O: Write>(
     inputs: &mut I,
     out: &mut O,
 ) -> Result<Outcome, Failure>
-    ensures ok { IfOk result (HartsCompare (I.scripts inputs.old) (traces_for naming.entry (I.traces inputs.old)) command.entry naming.entry harts
+    ensures ok { IfOk result (HartsCompare (I.scripts inputs.old)
+        (traces_for naming.entry (I.traces inputs.old)) command.entry naming.entry harts
         (O.contents out.old) (O.contents out.new)) }
-    ensures err { IfErr result (CantCompare (I.scripts inputs.old) (traces_for naming.entry (I.traces inputs.old)) command.entry naming.entry harts
+    ensures err { IfErr result (CantCompare (I.scripts inputs.old)
+        (traces_for naming.entry (I.traces inputs.old)) command.entry naming.entry harts
         (O.contents out.old) (O.contents out.new)) }
     ensures scripts { I.scripts inputs.new ≡ I.scripts inputs.old }
 {

@@ -18,7 +18,8 @@ pub fn read_trace<I: Inputs>(
     inputs: &mut I,
     path: &str,
 ) -> Result<Vec<u8>, InputFault>
-    ensures read { IfOk result (λ bytes. AreBytesOf (traces_for naming.entry (I.traces inputs.old) path.now) bytes.items) }
+    ensures read { IfOk result (λ bytes. AreBytesOf (traces_for naming.entry (I.traces inputs.old) path.now)
+        bytes.items) }
     ensures unread { IfErr result (CantBeRead MAX_TRACE (traces_for naming.entry (I.traces inputs.old) path.now)) }
     ensures scripts { I.scripts inputs.new ≡ I.scripts inputs.old }
     ensures traces { I.traces inputs.new ≡ I.traces inputs.old }

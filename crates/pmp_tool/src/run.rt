@@ -8,7 +8,18 @@ ghost use Rattle.pmp_tool.specs.Failures.{failure_status};
 ghost use Rattle.pmp_tool.specs.Notes.{Notes};
 ghost use Rattle.pmp_tool.specs.CommandAnswers.{outcome_status};
 ghost use Rattle.clap.specs.Words.{subcommand_rows_of};
-ghost use Rattle.pmp_tool.specs.Runs.{Answers, Does, DoesAt, DoesNot, DoesNotAt, Done, DoneBy, Fails, TextFails, Undone};
+ghost use Rattle.pmp_tool.specs.Runs.{
+  Answers,
+  Does,
+  DoesAt,
+  DoesNot,
+  DoesNotAt,
+  Done,
+  DoneBy,
+  Fails,
+  TextFails,
+  Undone,
+};
 ghost use Rattle.pmp_tool.specs.Runs.{UndoneBy};
 ghost use Rattle.pmp_tool.specs.declared.failure.Failure.{Failure};
 ghost use Rattle.pmp_tool.specs.declared.outcome.Outcome.{Outcome};
@@ -93,7 +104,8 @@ fn run<R: Threads + Wait + Sync, I: Inputs, O: Write>(
 ) -> Result<Outcome, Failure>
     ensures ok { IfOk result (Answers (map string_bytes words.now) (I.scripts inputs.old) (I.traces inputs.old)
         (I.folders inputs.old) (O.contents out.old) (O.contents out.new) (I.scripts inputs.new)) }
-    ensures err { IfErr result (Fails (map string_bytes words.now) (I.scripts inputs.old) (I.traces inputs.old) (I.folders inputs.old)
+    ensures err { IfErr result (Fails (map string_bytes words.now) (I.scripts inputs.old) (I.traces inputs.old)
+        (I.folders inputs.old)
         (O.contents out.old) (O.contents out.new)) }
 {
     match parse_words(alloc, words) {
