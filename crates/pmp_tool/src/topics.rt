@@ -557,7 +557,8 @@ it says how many publications are done, and whether MML, MMWP and RLB are on.
   Supervisor, user       SURIGHTS
   Lock                   if the owner is frozen, a lock: a full one and holds if
                          all entries before it are frozen too, an empty one and
-                         frozen if one isn't; otherwise nothing
+                         frozen if one isn't; an open one and bypassed if its L
+                         and RLB are 1; otherwise nothing
 
 Exit status:
   0  the answer is written
