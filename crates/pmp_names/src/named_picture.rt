@@ -109,11 +109,7 @@ fn append_names(
 }
 
 /// Appends a line, with the names that overlap it if it is a band.
-fn append_band(
-    out: &mut Vec<u8>,
-    names: &[AddressName<'_>],
-    line: &[u8],
-) -> Result<(), AllocError>
+fn append_band(out: &mut Vec<u8>, names: &[AddressName<'_>], line: &[u8]) -> Result<(), AllocError>
     ensures { OnOk result (out.new.items ≡ out.old.items ++ band_with_names (map named names.now) line.now) }
 {
     let (Some(first), Some(last)) = (number_at(line, b'>', 3), number_at(line, b'>', 5)) else {
