@@ -4,8 +4,9 @@ const MOST_DIFFERENCES = 500;
 
 class Differences {
     // kept: a function that gives the script as it is, {name, text}; changed: one that notes the state
-    constructor(unit, boots, kept, changed) {
+    constructor(unit, names, boots, kept, changed) {
         this.unit = unit;
+        this.names = names;
         this.boots = boots;
         this.kept = kept;
         this.changed = changed;
@@ -99,7 +100,8 @@ class Differences {
         const lines = answer === null || fails ? [] : linesOf(answer.text, ',');
         byId('differences-region').hidden = lines.length === 0;
         byId('differences-count').textContent = answer === null || fails ? '' : sayDifferences(lines.length);
-        fillTable(byId('differences'), lines.slice(0, MOST_DIFFERENCES), (row, fields) => {
+        const shown = this.names.addTo(lines.slice(0, MOST_DIFFERENCES), 0, 1);
+        fillTable(byId('differences'), shown, (row, fields) => {
             row.className = fields[6];
         });
     }
