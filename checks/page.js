@@ -157,6 +157,7 @@ async function verdictsShown(policy, by) {
     const asRow = (cells) => cells.slice(0, 6).join(',');
     return {
         rows: rowsOf('verdicts').map(asRow),
+        named: rowsOf('verdicts').map((cells) => [...cells.slice(0, 6), ...cells.slice(7)]),
         said: rowsOf('verdicts').map((cells) => cells[6]),
         answers: page.demands.fault ? [] : page.demands.lines.map(asRow),
         fault: seen ? byId('policy-fault-line').textContent : '',
@@ -209,6 +210,51 @@ async function findingsSet(policyName, oldName, policy, old, by, afters) {
     page.differences.put({...(oldName ? {name: oldName} : {text: `${old}\n`}), afters});
     await page.noteAddress();
     return findingsShown();
+}
+
+// Names of addresses.
+
+function giveNames(text) {
+    byId('names').value = text;
+    tellInput(byId('names'));
+    const seen = isSeen(byId('names-fault'));
+    return {
+        line: seen ? byId('names-fault-line').textContent : '',
+        advice: seen ? byId('names-fault-advice').textContent : '',
+        heads: [...document.querySelectorAll('th')].filter((it) => it.textContent === 'Names' && !it.hidden).length,
+    };
+}
+
+// The row that the names' fault leads to.
+function namesGoneTo() {
+    if (!isSeen(byId('names-go'))) return '';
+    byId('names-go').click();
+    const {value, selectionStart, selectionEnd} = byId('names');
+    return value.slice(selectionStart, selectionEnd);
+}
+
+// How many cells the rows of each table with ranges have, and what is said of the access.
+async function namesShown() {
+    await page.demands.finished;
+    const counts = ['runs', 'entries', 'verdicts', 'differences'].map((id) => rowsOf(id).map((cells) => cells.length));
+    return [counts.map((it) => [...new Set(it)]), byId('access-now').textContent];
+}
+
+// What the picture has of names and of all else, and whether the names end within their bands.
+function namesDrawn() {
+    const drawn = [...page.picture.root.querySelectorAll('text')];
+    const names = drawn.filter((it) => it.matches('.names'));
+    const endOf = (it) => it.getBoundingClientRect().right;
+    return {
+        names: names.map((it) => it.textContent),
+        rest: drawn.filter((it) => !it.matches('.names')).map((it) => it.textContent),
+        inside: names.slice(1).every((it) => endOf(it) <= endOf(it.parentElement.querySelector('rect'))),
+    };
+}
+
+function accessAnswer(words) {
+    choose(words);
+    return asList(page.access.answerAt(page.moment.at));
 }
 
 // The page for people.

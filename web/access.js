@@ -14,9 +14,9 @@ function readNumber(text) {
 const isBare = (text) => /^[0-9]{14}$/.test(text);
 const AS_DECIMAL = '14 digits without 0x are read as decimal; write 0x before a hexadecimal address.';
 
-// The access that the form's words name, or null where a number is none.
-function readAccess([mode, kind, start, length]) {
-    const [first, bytes] = [readNumber(start), readNumber(length)];
+// The access that the form's words name, or null where a number is none. It may start at one of the names.
+function readAccess([mode, kind, start, length], names) {
+    const [first, bytes] = [names.addressOf(start), readNumber(length)];
     return first === null || bytes === null ? null : {mode, kind, start: first, length: bytes};
 }
 
@@ -29,8 +29,9 @@ function sayDecision([, answer, fault, cause, entry]) {
 }
 
 class Access {
-    constructor(unit, words, now, table) {
+    constructor(unit, names, words, now, table) {
         this.unit = unit;
+        this.names = names;
         this.words = words;
         this.now = now;
         this.table = table;
@@ -55,7 +56,7 @@ class Access {
         this.turn += 1;
         this.boot = boot;
         this.by = by;
-        this.access = readAccess(this.state);
+        this.access = readAccess(this.state, this.names);
         this.answers = [];
         this.finished = this.decideAll(this.turn);
     }

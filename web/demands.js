@@ -12,8 +12,9 @@ function sayDemand({words: [from, to, modes, kind, first, last, demand], name, c
 
 class Demands {
     // moved: a function that takes the moment of a breach; changed: one that notes the state
-    constructor(unit, policies, moved, changed) {
+    constructor(unit, names, policies, moved, changed) {
         this.unit = unit;
+        this.names = names;
         this.policies = policies;
         this.moved = moved;
         this.changed = changed;
@@ -120,7 +121,7 @@ class Demands {
             + (this.lines.length > MOST_DEMANDS ? `; the first ${MOST_DEMANDS} rows:` : '.');
         table.caption.textContent = 'Each row of the policy with its first breach, in time and then in address: '
             + `after so many ${by === 'write' ? 'events' : 'publications'}. Entry - is none.`;
-        fillTable(table, this.lines.slice(0, MOST_DEMANDS), (row, fields) => {
+        fillTable(table, this.names.addTo(this.lines.slice(0, MOST_DEMANDS), 3, 4), (row, fields) => {
             row.className = fields[1];
             if (fields[2] === '') return;
             const at = Number(fields[2]);

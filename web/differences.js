@@ -4,8 +4,9 @@ const MOST_DIFFERENCES = 500;
 
 class Differences {
     // kept: a function that gives the script as it is, {name, text}; changed: one that notes the state
-    constructor(unit, boots, kept, changed) {
+    constructor(unit, names, boots, kept, changed) {
         this.unit = unit;
+        this.names = names;
         this.boots = boots;
         this.kept = kept;
         this.changed = changed;
@@ -24,21 +25,11 @@ class Differences {
         byId('keep-old').addEventListener('click', () => this.put(this.kept()));
         this.area.addEventListener('input', () => this.put({text: this.area.value}));
         for (const id of ['old-after', 'new-after']) byId(id).addEventListener('input', () => this.put(this.state));
-        byId('old-file').addEventListener('change', (event) => {
-            this.opened = this.openFile(event.target.files[0]);
-            event.target.value = '';
-        });
-        byId('differences-part').addEventListener('drop', (event) => {
-            if (event.dataTransfer.files.length === 0) return;
-            event.preventDefault();
-            event.stopPropagation();
-            this.opened = this.openFile(event.dataTransfer.files[0]);
-        });
-        byId('old-go').addEventListener('click', () => this.goTo(this.answer.line));
+        takeFile(byId('old-file'), byId('differences-part'), (file) => { this.opened = this.openFile(file); });
+        byId('old-go').addEventListener('click', () => selectLine(this.area, this.answer.line));
     }
 
     async openFile(file) {
-        if (!file) return;
         if (file.size > data.limits.MAX_SCRIPT) {
             this.show({...NO_ANSWER, status: TOO_LONG, side: 'old'});
             return;
@@ -109,17 +100,10 @@ class Differences {
         const lines = answer === null || fails ? [] : linesOf(answer.text, ',');
         byId('differences-region').hidden = lines.length === 0;
         byId('differences-count').textContent = answer === null || fails ? '' : sayDifferences(lines.length);
-        fillTable(byId('differences'), lines.slice(0, MOST_DIFFERENCES), (row, fields) => {
+        const shown = this.names.addTo(lines.slice(0, MOST_DIFFERENCES), 0, 1);
+        fillTable(byId('differences'), shown, (row, fields) => {
             row.className = fields[6];
         });
-    }
-
-    // Selects the line of the old script.
-    goTo(line) {
-        const lines = this.area.value.split('\n');
-        const before = lines.slice(0, line - 1).reduce((sum, one) => sum + one.length + 1, 0);
-        this.area.focus();
-        this.area.setSelectionRange(before, before + (lines[line - 1] ?? '').length);
     }
 }
 

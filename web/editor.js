@@ -74,10 +74,7 @@ class Editor {
 
     // Selects the line, and shows it.
     goTo(line) {
-        const lines = this.text.split('\n');
-        const before = lines.slice(0, line - 1).reduce((sum, one) => sum + one.length + 1, 0);
-        this.area.focus();
-        this.area.setSelectionRange(before, before + (lines[line - 1] ?? '').length);
+        selectLine(this.area, line);
         this.area.scrollLeft = 0;
         this.show(line);
     }

@@ -35,11 +35,12 @@ class Page {
         this.editor = new Editor(byId('script'), byId('gutter'));
         this.picture = new Picture(byId('picture'), data.darkPicture);
         const words = ['mode', 'kind', 'start', 'length'].map(byId);
-        this.access = new Access(unit, words, byId('access-now'), byId('decisions'));
+        this.names = new Names(() => this.namesChanged());
+        this.access = new Access(unit, this.names, words, byId('access-now'), byId('decisions'));
         const changed = () => this.noteAddress();
-        this.demands = new Demands(unit, data.policies, (moment) => this.goToMoment(moment), changed);
+        this.demands = new Demands(unit, this.names, data.policies, (moment) => this.goToMoment(moment), changed);
         const kept = () => (this.name === '' ? {text: this.editor.text} : {name: this.name});
-        this.differences = new Differences(unit, data.boots, kept, changed);
+        this.differences = new Differences(unit, this.names, data.boots, kept, changed);
         this.harts = new Harts(unit, (text, first) => this.openHart(text, first));
         offerNames(byId('boot'), data.boots);
         this.listen();
@@ -104,6 +105,7 @@ class Page {
         } catch {
             unread = 'The address has no state that this page can read.';
         }
+        this.names.text = state?.names ?? '';
         if (state?.access) this.access.state = state.access;
         this.demands.state = state?.policy ?? {by: 'publication'};
         this.differences.state = state?.old ?? {afters: ['', '']};
@@ -125,8 +127,7 @@ class Page {
         if (files.length === 0) return;
         const long = files.find((file) => file.size > data.limits.MAX_SCRIPT);
         if (long) {
-            const fault = {status: TOO_LONG, line: 0};
-            tell(`${long.name}: ${sayRefusal(fault)}. ${sayAdvice(fault)}`);
+            tellTooLong(long);
             return;
         }
         const scripts = await Promise.all(files.map((file) => readScript(this.unit, file)));
@@ -134,8 +135,7 @@ class Page {
         const {text, told} = scripts.length > 1 ? this.harts.scripts[0] : scripts[0];
         this.open('', text);
         if (told !== '') tell(told);
-        if (/\r(?!\n)/.test(text)) tell('The editor has no lone CR: each is a line’s end here.');
-        if (text.includes('\ufffd')) tell('Bytes that are no UTF-8 are U+FFFD here.');
+        tellOfText(text);
         this.noteAddress();
     }
 
@@ -218,8 +218,23 @@ class Page {
         this.noteAddress();
     }
 
+    // Shows the same answers with the names as they are now.
+    namesChanged() {
+        if (this.isAnswered) {
+            this.access.ask(this.boot, this.moment.by);
+            this.showAnswers();
+            this.demands.ask(this.boot);
+            this.differences.ask(this.boot);
+        }
+        this.noteAddress();
+    }
+
     ask(call) {
         return this.unit[call](this.boot.scriptBy(this.moment.by), this.moment.at);
+    }
+
+    runs() {
+        return this.names.addTo(linesOf(this.ask('map').text, ','), 0, 1);
     }
 
     // What is shown.
@@ -264,7 +279,7 @@ class Page {
             byId('moment').textContent = `${sayRefusal(picture)}. ${sayAdvice(picture)}`;
             return;
         }
-        this.picture.show(picture.text);
+        this.picture.show(this.names.given === null ? picture.text : withNames(picture.text, this.runs()));
         this.showRuns();
         this.showEntries();
         this.showRegisters();
@@ -283,13 +298,13 @@ class Page {
 
     showRuns() {
         if (!byId('runs-part').open) return;
-        fillTable(byId('runs'), linesOf(this.ask('map').text, ','), (row, fields) => {
+        fillTable(byId('runs'), this.runs(), (row, fields) => {
             row.className = `su${fields[4]}`;
         });
     }
 
     showEntries() {
-        const lines = linesOf(this.ask('entries').text, ',');
+        const lines = this.names.addTo(linesOf(this.ask('entries').text, ','), 2, 3);
         fillTable(byId('entries'), lines, (row, fields) => {
             row.className = classOfEntry(fields);
         });
@@ -355,8 +370,8 @@ class Page {
     }
 
     async writeAddress() {
-        const {access, demands, differences, moment} = this;
-        const state = {boot: this.name, text: this.editor.text, ...moment, access: access.state};
+        const {access, demands, differences, moment, names} = this;
+        const state = {boot: this.name, text: this.editor.text, ...moment, access: access.state, names: names.text};
         [state.policy, state.old] = [demands.state, differences.state];
         const address = await addressOf(state);
         history.replaceState(null, '', address === '' ? location.pathname + location.search : address);
@@ -377,4 +392,15 @@ function classOfEntry([, matching, , , , , lock, address, , holds]) {
 function tell(text) {
     byId('notice').textContent = text;
     byId('notice').hidden = text === '';
+}
+
+function tellTooLong(file) {
+    const fault = {status: TOO_LONG, line: 0};
+    tell(`${file.name}: ${sayRefusal(fault)}. ${sayAdvice(fault)}`);
+}
+
+// What a text of the page doesn't have as its file has it.
+function tellOfText(text) {
+    if (/\r(?!\n)/.test(text)) tell('The editor has no lone CR: each is a line’s end here.');
+    if (text.includes('\ufffd')) tell('Bytes that are no UTF-8 are U+FFFD here.');
 }

@@ -3,7 +3,7 @@
 function reportOf(page) {
     const {by, at} = page.moment;
     const parts = [
-        ['Memory map', 'runs', linesOf(page.ask('map').text, ',')],
+        ['Memory map', 'runs', page.runs()],
         ['Entries', 'entries', rowsSeen('entries')],
         ['Policy', 'verdicts', rowsSeen('verdicts')],
         ['Difference', 'differences', rowsSeen('differences')],
@@ -22,12 +22,12 @@ function rowsSeen(id) {
 }
 
 function markdownTable(table, lines) {
-    const names = [...table.tHead.rows[0].cells].map((cell) => cell.textContent);
+    const names = columnsOf(table);
     const rows = [names.map(markdownText), names.map(() => '---'), ...lines.map((fields) => fields.map(markdownText))];
     return rows.map((fields) => `| ${fields.join(' | ')} |\n`).join('');
 }
 
 // A text whose signs Markdown doesn't read.
 function markdownText(text) {
-    return text.replace(/[\\`*_[\]<>|#]/g, '\\$&');
+    return text.replace(/[\\`*_[\]<>|#&~]/g, '\\$&');
 }

@@ -13,14 +13,20 @@ function addCell(row, column, name) {
     return cell;
 }
 
+// The names of the columns. One that isn't shown has a hidden head, and no cells.
+function columnsOf(table) {
+    return [...table.tHead.rows[0].cells].filter((head) => !head.hidden).map((head) => head.textContent);
+}
+
 // Rows and cells that are there stay, and only texts that differ are set: a move of the slider changes few of them. On
 // a narrow screen a cell shows the name of its column.
 function fillTable(table, lines, dress = () => {}) {
     const body = table.tBodies[0];
-    const names = [...table.tHead.rows[0].cells].map((cell) => cell.textContent);
+    const names = columnsOf(table);
     while (body.rows.length > lines.length) body.deleteRow(-1);
     lines.forEach((fields, place) => {
         const row = body.rows[place] ?? body.insertRow();
+        while (row.cells.length > fields.length) row.deleteCell(-1);
         fields.forEach((field, column) => {
             const cell = row.cells[column] ?? addCell(row, column, names[column]);
             if (cell.textContent !== field) cell.textContent = field;
