@@ -28,7 +28,7 @@ PREFIX ?= /usr/local
 SECONDS ?= 600
 HART ?= qemu-system-riscv64 -M virt -cpu rv64,x-epmp=true -m 16M -display none -monitor none -serial stdio -bios ELF
 PROGRAM = crates/pmp_tool/out/pmp_tool
-TESTS = crates/pmp_tests/out/pmp_tests
+STRESS = crates/pmp_stress/out/pmp_stress
 LIBRARY = crates/pmp_c/out/libpmp_c.a
 export PREFIX DESTDIR
 
@@ -87,7 +87,7 @@ test:
 	    'checks/hostile $(PROGRAM)' \
 	    'checks/machines $(PROGRAM)' \
 	    'checks/rv32 $(PROGRAM)' \
-	    'checks/growths $(TESTS)' \
+	    'checks/growths $(STRESS)' \
 	    'checks/plans --plans 200 $(PROGRAM)'
 
 # Notes that rt ci has proved the program.
@@ -153,14 +153,14 @@ bench-qemu:
 
 bench-threads: stress
 	gcc -O2 -std=c11 -Wall -Wextra -pthread bench/threads.c bench/spike_like.c -o bench/out/threads
-	$(TESTS) bench
+	$(STRESS) bench
 	bench/out/threads
 
 bench-limits: stress
-	bench/most-memory $(TESTS) fill 16384 64
-	bench/most-memory $(TESTS) fill 16384 64 together
-	bench/most-memory $(TESTS) fill 1000000 1
-	bench/most-memory $(TESTS) fill 1000000 1 together
+	bench/most-memory $(STRESS) fill 16384 64
+	bench/most-memory $(STRESS) fill 16384 64 together
+	bench/most-memory $(STRESS) fill 1000000 1
+	bench/most-memory $(STRESS) fill 1000000 1 together
 
 bench-audit: build
 	@mkdir -p bench/out
@@ -171,9 +171,9 @@ bench-page: page
 	@command -v chromium >/dev/null || { echo "there is no chromium, so the page isn't timed"; exit; }; bench/page
 
 soak: stress
-	bench/most-memory $(TESTS) soak $(SECONDS)
+	bench/most-memory $(STRESS) soak $(SECONDS)
 
 stress:
 	@mkdir -p bench/out
 	@echo "proving and building the program; the log is bench/out/stress.log"
-	@(cd crates/pmp_tests && rt run --jobs 1) >bench/out/stress.log 2>&1 || { cat bench/out/stress.log >&2; exit 1; }
+	@(cd crates/pmp_stress && rt run --jobs 1) >bench/out/stress.log 2>&1 || { cat bench/out/stress.log >&2; exit 1; }

@@ -1,24 +1,37 @@
 -- Texts of fields, with numbers in the places of names.
-use Rattle.std.specs.Prelude.{ℕ, List, [], ◌∷◌, ◌++◌, Bool, false, not, ◌&&◌, ◌||◌, ◌==◌, Option, Some, None, codes}
+use Rattle.std.specs.Prelude.{ℕ, List, [], ◌∷◌, ◌++◌, Bool, true, false, not, ◌&&◌, ◌||◌, ◌==◌, Option, Some, None, codes}
 use Rattle.std.specs.Prelude.{bytes_eq, if◌then◌else◌}
 use Rattle.std.specs.Fmt.{digits}
 use Rattle.std.specs.List.{flat_map, onto_first}
 use Rattle.pmp_names.specs.AddressNames.{Named}
 use Rattle.pmp_names.specs.NamedAddresses.{end_said, place_said}
+use Rattle.pmp_names.specs.declared.numbered_text.Place.{Place}
+use Rattle.pmp_names.specs.declared.numbered_text.Place.TheVariants.{Beginning, Plain, Quoted, Closed}
 
--- a quote begins quotes or ends them
-abbrev pub quoted_behind : (in_quotes : Bool) (byte : ℕ) → Bool
-quoted_behind in_quotes byte = if byte == 34 then not in_quotes else in_quotes
+-- outside quotes a field begins after a comma or a line end
+abbrev pub outside : (byte : ℕ) → Place
+outside byte = if byte == 44 || (byte == 10 || byte == 13) then Beginning else Plain
 
--- the parts of a text, between the separators outside quotes
-abbrev pub parts_from : (separator : ℕ) (in_quotes : Bool) → (text : List ℕ) → List (List ℕ)
-parts_from separator in_quotes [] = [] ∷ []
-parts_from separator in_quotes (byte ∷ more) =
-    if byte == separator && not in_quotes then [] ∷ parts_from separator false more
-    else onto_first byte (parts_from separator (quoted_behind in_quotes byte) more)
+-- a quote opens a quoted part at the beginning of a field, and closes it; two in a quoted part stand for one
+abbrev pub after : Place → (byte : ℕ) → Place
+after Quoted byte = if byte == 34 then Closed else Quoted
+after Plain byte = outside byte
+after Beginning byte = if byte == 34 then Quoted else outside byte
+after Closed byte = if byte == 34 then Quoted else outside byte
+
+abbrev pub is_quoted : Place → Bool
+is_quoted Quoted = true
+is_quoted place = false
+
+-- the parts of a text between the separators outside quotes
+abbrev pub parts_from : (separator : ℕ) → Place → (text : List ℕ) → List (List ℕ)
+parts_from separator place [] = [] ∷ []
+parts_from separator place (byte ∷ more) =
+    if byte == separator && not (is_quoted place) then [] ∷ parts_from separator Beginning more
+    else onto_first byte (parts_from separator (after place byte) more)
 
 abbrev pub parts_of : (separator : ℕ) (text : List ℕ) → List (List ℕ)
-parts_of separator text = parts_from separator false text
+parts_of separator text = parts_from separator Beginning text
 
 -- between commas
 abbrev pub fields_of : (line : List ℕ) → List (List ℕ)

@@ -3,8 +3,8 @@
 ghost use Rattle.std.specs.Prelude.{◌≡◌, ◌++◌, ◌∷◌, ◌<◌, IfOk, IfSome, List, OnOk, Some, codes, false, length, map, ℕ};
 ghost use Rattle.std.specs.Fmt.{digits};
 ghost use Rattle.pmp_names.specs.AddressNames.{Named};
-ghost use Rattle.pmp_names.specs.NumberedTexts.{fields_of, numbered_field, numbered_fields, numbered_row, numbered_text};
-ghost use Rattle.pmp_names.specs.NumberedTexts.{parts_of, quoted_behind, said_below};
+ghost use Rattle.pmp_names.specs.NumberedTexts.{after, fields_of, is_quoted, numbered_field, numbered_fields, numbered_row};
+ghost use Rattle.pmp_names.specs.NumberedTexts.{numbered_text, outside, parts_of, said_below};
 ghost use Rattle.pmp_names.specs.Parts.{end_at, rest_of};
 ghost use Rattle.pmp_names.specs.NameLists.{named};
 
@@ -28,11 +28,46 @@ impl fmt::Display for Number {
     }
 }
 
-/// Whether quotes are open after a byte.
-fn quoted_behind(in_quotes: bool, byte: u8) -> bool
-    ensures { result ≡ quoted_behind in_quotes byte }
+/// Where a byte stands, by the quotes before it. Only quotes at the beginning of a field open a quoted part.
+#[derive(Clone, Copy)]
+enum Place {
+    /// At the beginning of a field.
+    Beginning,
+    /// Later in a field, outside quotes.
+    Plain,
+    Quoted,
+    /// Just after the quote that ends a quoted part, or the first of two that stand for one.
+    Closed,
+}
+
+/// Returns where the byte after this one stands, if this one neither opens nor closes quotes.
+fn outside(byte: u8) -> Place
+    ensures { result ≡ outside byte }
 {
-    if byte == b'"' { !in_quotes } else { in_quotes }
+    match byte {
+        b',' | b'\n' | b'\r' => Place::Beginning,
+        _ => Place::Plain,
+    }
+}
+
+impl Place {
+    fn is_quoted(self) -> bool
+        ensures { result ≡ is_quoted self }
+    {
+        matches!(self, Place::Quoted)
+    }
+
+    /// Returns where the byte after this one stands.
+    fn after(self, byte: u8) -> Place
+        ensures { result ≡ after self byte }
+    {
+        match self {
+            Place::Quoted if byte == b'"' => Place::Closed,
+            Place::Quoted => Place::Quoted,
+            Place::Beginning | Place::Closed if byte == b'"' => Place::Quoted,
+            _ => outside(byte),
+        }
+    }
 }
 
 /// Returns the position of the first separator outside quotes.
@@ -40,12 +75,12 @@ fn end_at(text: &[u8], separator: u8) -> Option<usize>
     ensures value { result ≡ end_at separator text.now }
     ensures inside { IfSome result (λ end. end < length text.now) }
 {
-    let mut in_quotes = false;
-    for (place, byte) in text.iter().enumerate() {
-        if *byte == separator && !in_quotes {
-            return Some(place);
+    let mut place = Place::Beginning;
+    for (index, byte) in text.iter().enumerate() {
+        if *byte == separator && !place.is_quoted() {
+            return Some(index);
         }
-        in_quotes = quoted_behind(in_quotes, *byte);
+        place = place.after(*byte);
     }
     None
 }

@@ -77,7 +77,7 @@ impl ReaderState {
 
     /// Looks: the published version answers, or the digest if no entrance is given. Also returns how many events the
     /// answer is in. No clause says that it sees a publication that has returned: a body that answers by the digest
-    /// alone is caught by `pmp_tests`, which asks each question after publications, on running threads.
+    /// alone is caught by `pmp_stress`, which asks each question after publications, on running threads.
     #[inline]
     pub fn look<Q: Question>(&mut self, question: &Q) -> (Q::Answer, u64)
         requires { Q.is_sound question.now }

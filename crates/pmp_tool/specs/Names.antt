@@ -5,8 +5,8 @@ use Rattle.pmp_names.specs.declared.named_rows.Columns.{Columns}
 use Rattle.pmp_names.specs.AddressNames.{Named, rows_with_names}
 use Rattle.pmp_names.specs.NameLists.{named}
 use Rattle.pmp_names.specs.NamedPictures.{picture_with_names}
-use Rattle.pmp_tool.specs.declared.naming.Named.TheVariants as output
-use Rattle.pmp_tool.specs.declared.naming.Named.{Named as Output}
+use Rattle.pmp_tool.specs.declared.naming.Output.TheVariants as output
+use Rattle.pmp_tool.specs.declared.naming.Output.{Output}
 use Rattle.pmp_tool.specs.declared.naming.Naming.{Naming}
 use Rattle.pmp_tool.specs.declared.request.Request.{Request}
 use Rattle.pmp_tool.specs.declared.request.Request.TheVariants as request

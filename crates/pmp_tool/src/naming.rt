@@ -11,7 +11,7 @@ use std::alloc::{AllocError, Global};
 
 /// The output that names are added to.
 #[derive(Clone, Copy)]
-pub enum Named {
+pub enum Output {
     /// Rows, of which these fields are addresses.
     Rows(Columns),
     Picture,
@@ -22,21 +22,21 @@ pub enum Named {
 pub struct Naming<'a> {
     pub names: &'a [AddressName<'a>],
     /// None if nothing is added.
-    pub output: Option<Named>,
+    pub output: Option<Output>,
 }
 
 /// Returns what its output is, if names are added to it.
-fn output_of(request: Request<'_>) -> Option<Named>
+fn output_of(request: Request<'_>) -> Option<Output>
     ensures { result ≡ output_of request.entry }
 {
     match request {
         Request::Show(View::Runs, _) | Request::Diff(_) | Request::Harts(_) => {
-            Some(Named::Rows(Columns { first: 0, last: 1 }))
+            Some(Output::Rows(Columns { first: 0, last: 1 }))
         }
-        Request::Show(View::Entries, _) => Some(Named::Rows(Columns { first: 2, last: 3 })),
-        Request::Show(View::Picture, _) => Some(Named::Picture),
-        Request::Policy(..) => Some(Named::Rows(Columns { first: 3, last: 4 })),
-        Request::Lint(_) => Some(Named::Rows(Columns { first: 4, last: 5 })),
+        Request::Show(View::Entries, _) => Some(Output::Rows(Columns { first: 2, last: 3 })),
+        Request::Show(View::Picture, _) => Some(Output::Picture),
+        Request::Policy(..) => Some(Output::Rows(Columns { first: 3, last: 4 })),
+        Request::Lint(_) => Some(Output::Rows(Columns { first: 4, last: 5 })),
         _ => None,
     }
 }
@@ -66,8 +66,8 @@ pub fn with_names(
     };
     let mut all = Vec::new(alloc);
     match naming.output {
-        Some(Named::Rows(columns)) => append_named(&mut all, naming.names, columns, &rows)?,
-        Some(Named::Picture) => append_named_picture(&mut all, naming.names, &rows)?,
+        Some(Output::Rows(columns)) => append_named(&mut all, naming.names, columns, &rows)?,
+        Some(Output::Picture) => append_named_picture(&mut all, naming.names, &rows)?,
         None => return Ok(rows),
     }
     Ok(all)

@@ -108,8 +108,8 @@ blanks, blank lines are no rows, and there are no comments.
           last-N or MOMENT, as in policies
   mode    M, S or U
   kind    fetch, load or store
-  start   the byte address of the access's first byte, a number; the access ends
-          at or below 2^56
+  start   the byte address of the access's first byte, a number, or with --names
+          a name; the access ends at or below 2^56
   length  how many bytes it has, a number: 1 to 4,096
 
 A number is 1 to 20 decimal digits, or `0x` and 1 to 16 hexadecimal digits,
@@ -249,14 +249,15 @@ for each row of the trace, in order.
 With `--names FILE`, an address may be a name or NAME`+`OFFSET, a number of
 bytes after its first byte: START of `check` and `why`, `start` of a trace
 (without `--long`), `first` and `last` of a policy. NAME is its first byte, and
-as `last` its last one. `policy`, `map`, `entries`, `lint`, `diff` and `harts`
-write after each row a comma and the names of its bytes, from FIRST to LAST, in
-FILE's order and with blanks between: NAME if the range has all bytes of the
-name, NAME`+0x`OFFSET if only a part, OFFSET bytes into it. `picture` has them
-as a last column. FILE has the line `first,last,name`, and then one for each
-name, as `0x80000000,0x8003ffff,firmware` and `0x10000000,0x10000fff,uart`: the
-byte address of the first byte; that of the last, not below; and the name, 1 to
-64 printable bytes without blank, `\"`, `+` and `,`, the first one no digit.
+as `last` its last one, so `heap,heap` is all of it. `policy`, `map`, `entries`,
+`lint`, `diff` and `harts` write after each row a comma and the names of its
+bytes, from FIRST to LAST, in FILE's order and with blanks between: NAME if the
+range has all bytes of the name, NAME`+0x`OFFSET if only a part, OFFSET bytes
+into it. `picture` has them as a last column. FILE has the line
+`first,last,name`, and then one for each name, as
+`0x80000000,0x8003ffff,firmware` and `0x10000000,0x10000fff,uart`: the byte
+address of the first byte; that of the last, not below; and the name, 1 to 64
+printable bytes without blank, `\"`, `+` and `,`, the first one no digit.
 
 Exit status:
   0  the answer is allow, or the one that --expect names
@@ -318,14 +319,15 @@ for each row of the trace, in order.
 With `--names FILE`, an address may be a name or NAME`+`OFFSET, a number of
 bytes after its first byte: START of `check` and `why`, `start` of a trace
 (without `--long`), `first` and `last` of a policy. NAME is its first byte, and
-as `last` its last one. `policy`, `map`, `entries`, `lint`, `diff` and `harts`
-write after each row a comma and the names of its bytes, from FIRST to LAST, in
-FILE's order and with blanks between: NAME if the range has all bytes of the
-name, NAME`+0x`OFFSET if only a part, OFFSET bytes into it. `picture` has them
-as a last column. FILE has the line `first,last,name`, and then one for each
-name, as `0x80000000,0x8003ffff,firmware` and `0x10000000,0x10000fff,uart`: the
-byte address of the first byte; that of the last, not below; and the name, 1 to
-64 printable bytes without blank, `\"`, `+` and `,`, the first one no digit.
+as `last` its last one, so `heap,heap` is all of it. `policy`, `map`, `entries`,
+`lint`, `diff` and `harts` write after each row a comma and the names of its
+bytes, from FIRST to LAST, in FILE's order and with blanks between: NAME if the
+range has all bytes of the name, NAME`+0x`OFFSET if only a part, OFFSET bytes
+into it. `picture` has them as a last column. FILE has the line
+`first,last,name`, and then one for each name, as
+`0x80000000,0x8003ffff,firmware` and `0x10000000,0x10000fff,uart`: the byte
+address of the first byte; that of the last, not below; and the name, 1 to 64
+printable bytes without blank, `\"`, `+` and `,`, the first one no digit.
 
 Exit status:
   0  the access is allowed
@@ -400,7 +402,8 @@ numbered rows:
   modes        one to three of the letters M, S and U, none twice
   kind         fetch, load, store or any
   first, last  the byte addresses of the first byte and of the last one,
-               inclusive: numbers below 2^56, the last not below the first
+               inclusive: numbers below 2^56, or with --names names, the last
+               not below the first
   demand       never, always or held
 
 With a script of version 3, `from` and `to` may also name a moment, and so
@@ -452,14 +455,15 @@ address, or `N,unmet,,,,`; then, if the header has them, `,NAME,COMMENT`.
 With `--names FILE`, an address may be a name or NAME`+`OFFSET, a number of
 bytes after its first byte: START of `check` and `why`, `start` of a trace
 (without `--long`), `first` and `last` of a policy. NAME is its first byte, and
-as `last` its last one. `policy`, `map`, `entries`, `lint`, `diff` and `harts`
-write after each row a comma and the names of its bytes, from FIRST to LAST, in
-FILE's order and with blanks between: NAME if the range has all bytes of the
-name, NAME`+0x`OFFSET if only a part, OFFSET bytes into it. `picture` has them
-as a last column. FILE has the line `first,last,name`, and then one for each
-name, as `0x80000000,0x8003ffff,firmware` and `0x10000000,0x10000fff,uart`: the
-byte address of the first byte; that of the last, not below; and the name, 1 to
-64 printable bytes without blank, `\"`, `+` and `,`, the first one no digit.
+as `last` its last one, so `heap,heap` is all of it. `policy`, `map`, `entries`,
+`lint`, `diff` and `harts` write after each row a comma and the names of its
+bytes, from FIRST to LAST, in FILE's order and with blanks between: NAME if the
+range has all bytes of the name, NAME`+0x`OFFSET if only a part, OFFSET bytes
+into it. `picture` has them as a last column. FILE has the line
+`first,last,name`, and then one for each name, as
+`0x80000000,0x8003ffff,firmware` and `0x10000000,0x10000fff,uart`: the byte
+address of the first byte; that of the last, not below; and the name, 1 to 64
+printable bytes without blank, `\"`, `+` and `,`, the first one no digit.
 
 Exit status:
   0  every row, if there are any, holds, or is unmet with if-any
@@ -518,14 +522,15 @@ and neighbours have different owners: at most 33 with 16 entries, 129 with 64.
 With `--names FILE`, an address may be a name or NAME`+`OFFSET, a number of
 bytes after its first byte: START of `check` and `why`, `start` of a trace
 (without `--long`), `first` and `last` of a policy. NAME is its first byte, and
-as `last` its last one. `policy`, `map`, `entries`, `lint`, `diff` and `harts`
-write after each row a comma and the names of its bytes, from FIRST to LAST, in
-FILE's order and with blanks between: NAME if the range has all bytes of the
-name, NAME`+0x`OFFSET if only a part, OFFSET bytes into it. `picture` has them
-as a last column. FILE has the line `first,last,name`, and then one for each
-name, as `0x80000000,0x8003ffff,firmware` and `0x10000000,0x10000fff,uart`: the
-byte address of the first byte; that of the last, not below; and the name, 1 to
-64 printable bytes without blank, `\"`, `+` and `,`, the first one no digit.
+as `last` its last one, so `heap,heap` is all of it. `policy`, `map`, `entries`,
+`lint`, `diff` and `harts` write after each row a comma and the names of its
+bytes, from FIRST to LAST, in FILE's order and with blanks between: NAME if the
+range has all bytes of the name, NAME`+0x`OFFSET if only a part, OFFSET bytes
+into it. `picture` has them as a last column. FILE has the line
+`first,last,name`, and then one for each name, as
+`0x80000000,0x8003ffff,firmware` and `0x10000000,0x10000fff,uart`: the byte
+address of the first byte; that of the last, not below; and the name, 1 to 64
+printable bytes without blank, `\"`, `+` and `,`, the first one no digit.
 
 Exit status:
   0  the answer is written
@@ -559,6 +564,8 @@ it says how many publications are done, and whether MML, MMWP and RLB are on.
                          all entries before it are frozen too, an empty one and
                          frozen if one isn't; an open one and bypassed if its L
                          and RLB are 1; otherwise nothing
+  Names                  with --names the names of the run's bytes, as after a
+                         run line
 
 Exit status:
   0  the answer is written
@@ -605,14 +612,15 @@ it isn't frozen, and may be able to take its bytes.
 With `--names FILE`, an address may be a name or NAME`+`OFFSET, a number of
 bytes after its first byte: START of `check` and `why`, `start` of a trace
 (without `--long`), `first` and `last` of a policy. NAME is its first byte, and
-as `last` its last one. `policy`, `map`, `entries`, `lint`, `diff` and `harts`
-write after each row a comma and the names of its bytes, from FIRST to LAST, in
-FILE's order and with blanks between: NAME if the range has all bytes of the
-name, NAME`+0x`OFFSET if only a part, OFFSET bytes into it. `picture` has them
-as a last column. FILE has the line `first,last,name`, and then one for each
-name, as `0x80000000,0x8003ffff,firmware` and `0x10000000,0x10000fff,uart`: the
-byte address of the first byte; that of the last, not below; and the name, 1 to
-64 printable bytes without blank, `\"`, `+` and `,`, the first one no digit.
+as `last` its last one, so `heap,heap` is all of it. `policy`, `map`, `entries`,
+`lint`, `diff` and `harts` write after each row a comma and the names of its
+bytes, from FIRST to LAST, in FILE's order and with blanks between: NAME if the
+range has all bytes of the name, NAME`+0x`OFFSET if only a part, OFFSET bytes
+into it. `picture` has them as a last column. FILE has the line
+`first,last,name`, and then one for each name, as
+`0x80000000,0x8003ffff,firmware` and `0x10000000,0x10000fff,uart`: the byte
+address of the first byte; that of the last, not below; and the name, 1 to 64
+printable bytes without blank, `\"`, `+` and `,`, the first one no digit.
 
 Exit status:
   0  the answer is written
@@ -730,14 +738,15 @@ at LINE.
 With `--names FILE`, an address may be a name or NAME`+`OFFSET, a number of
 bytes after its first byte: START of `check` and `why`, `start` of a trace
 (without `--long`), `first` and `last` of a policy. NAME is its first byte, and
-as `last` its last one. `policy`, `map`, `entries`, `lint`, `diff` and `harts`
-write after each row a comma and the names of its bytes, from FIRST to LAST, in
-FILE's order and with blanks between: NAME if the range has all bytes of the
-name, NAME`+0x`OFFSET if only a part, OFFSET bytes into it. `picture` has them
-as a last column. FILE has the line `first,last,name`, and then one for each
-name, as `0x80000000,0x8003ffff,firmware` and `0x10000000,0x10000fff,uart`: the
-byte address of the first byte; that of the last, not below; and the name, 1 to
-64 printable bytes without blank, `\"`, `+` and `,`, the first one no digit.
+as `last` its last one, so `heap,heap` is all of it. `policy`, `map`, `entries`,
+`lint`, `diff` and `harts` write after each row a comma and the names of its
+bytes, from FIRST to LAST, in FILE's order and with blanks between: NAME if the
+range has all bytes of the name, NAME`+0x`OFFSET if only a part, OFFSET bytes
+into it. `picture` has them as a last column. FILE has the line
+`first,last,name`, and then one for each name, as
+`0x80000000,0x8003ffff,firmware` and `0x10000000,0x10000fff,uart`: the byte
+address of the first byte; that of the last, not below; and the name, 1 to 64
+printable bytes without blank, `\"`, `+` and `,`, the first one no digit.
 
 Exit status:
   0  there is no row to write
@@ -781,14 +790,15 @@ longest ranges of bytes whose lock differs. `--only` keeps them all.
 With `--names FILE`, an address may be a name or NAME`+`OFFSET, a number of
 bytes after its first byte: START of `check` and `why`, `start` of a trace
 (without `--long`), `first` and `last` of a policy. NAME is its first byte, and
-as `last` its last one. `policy`, `map`, `entries`, `lint`, `diff` and `harts`
-write after each row a comma and the names of its bytes, from FIRST to LAST, in
-FILE's order and with blanks between: NAME if the range has all bytes of the
-name, NAME`+0x`OFFSET if only a part, OFFSET bytes into it. `picture` has them
-as a last column. FILE has the line `first,last,name`, and then one for each
-name, as `0x80000000,0x8003ffff,firmware` and `0x10000000,0x10000fff,uart`: the
-byte address of the first byte; that of the last, not below; and the name, 1 to
-64 printable bytes without blank, `\"`, `+` and `,`, the first one no digit.
+as `last` its last one, so `heap,heap` is all of it. `policy`, `map`, `entries`,
+`lint`, `diff` and `harts` write after each row a comma and the names of its
+bytes, from FIRST to LAST, in FILE's order and with blanks between: NAME if the
+range has all bytes of the name, NAME`+0x`OFFSET if only a part, OFFSET bytes
+into it. `picture` has them as a last column. FILE has the line
+`first,last,name`, and then one for each name, as
+`0x80000000,0x8003ffff,firmware` and `0x10000000,0x10000fff,uart`: the byte
+address of the first byte; that of the last, not below; and the name, 1 to 64
+printable bytes without blank, `\"`, `+` and `,`, the first one no digit.
 
 Exit status:
   0  there is no row to write
@@ -845,14 +855,15 @@ longest ranges of bytes whose lock differs. `--only` keeps them all.
 With `--names FILE`, an address may be a name or NAME`+`OFFSET, a number of
 bytes after its first byte: START of `check` and `why`, `start` of a trace
 (without `--long`), `first` and `last` of a policy. NAME is its first byte, and
-as `last` its last one. `policy`, `map`, `entries`, `lint`, `diff` and `harts`
-write after each row a comma and the names of its bytes, from FIRST to LAST, in
-FILE's order and with blanks between: NAME if the range has all bytes of the
-name, NAME`+0x`OFFSET if only a part, OFFSET bytes into it. `picture` has them
-as a last column. FILE has the line `first,last,name`, and then one for each
-name, as `0x80000000,0x8003ffff,firmware` and `0x10000000,0x10000fff,uart`: the
-byte address of the first byte; that of the last, not below; and the name, 1 to
-64 printable bytes without blank, `\"`, `+` and `,`, the first one no digit.
+as `last` its last one, so `heap,heap` is all of it. `policy`, `map`, `entries`,
+`lint`, `diff` and `harts` write after each row a comma and the names of its
+bytes, from FIRST to LAST, in FILE's order and with blanks between: NAME if the
+range has all bytes of the name, NAME`+0x`OFFSET if only a part, OFFSET bytes
+into it. `picture` has them as a last column. FILE has the line
+`first,last,name`, and then one for each name, as
+`0x80000000,0x8003ffff,firmware` and `0x10000000,0x10000fff,uart`: the byte
+address of the first byte; that of the last, not below; and the name, 1 to 64
+printable bytes without blank, `\"`, `+` and `,`, the first one no digit.
 
 Exit status:
   0  there is no row to write
