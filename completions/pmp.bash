@@ -29,7 +29,7 @@ _pmp() {
             words='--explain --xlen --entries --grain --address-bits --smepmp --mml --mmwp --rlb --c --of stdin'
             files=yes
             ;;
-        help) words="$commands script trace rows" ;;
+        help) words="$commands script trace names rows" ;;
     esac
     case $before in
         --expect) words='allow fault' files= ;;

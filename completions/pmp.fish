@@ -17,7 +17,7 @@ complete -c pmp -n __fish_use_subcommand -f -a harts -d 'write where the harts o
 complete -c pmp -n __fish_use_subcommand -f -a import -d 'write a script of a log'
 complete -c pmp -n __fish_use_subcommand -f -a plan -d 'write the CSR writes for a plan'
 complete -c pmp -n __fish_use_subcommand -f -a help -d 'tell of a command'
-complete -c pmp -n '__fish_seen_subcommand_from help' -f -a "$commands script trace rows"
+complete -c pmp -n '__fish_seen_subcommand_from help' -f -a "$commands script trace names rows"
 complete -c pmp -n "__fish_seen_subcommand_from $commands" -l explain -d 'explain a refusal'
 complete -c pmp -n '__fish_seen_subcommand_from check why dump map picture entries' -l after -x \
     -a 'last mml mmwp rlb-clear' -d 'take the first N publications'

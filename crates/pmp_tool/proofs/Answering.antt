@@ -9,7 +9,7 @@ use Rattle.pmp_tool.specs.declared.failure.Failure.{Failure}
 use Rattle.pmp_tool.specs.declared.outcome.Outcome.{Outcome}
 use Rattle.pmp_tool.specs.declared.request.Request.{Request}
 use Rattle.pmp_tool.specs.Failures.{unaudited}
-use Rattle.pmp_tool.specs.Inputs.{AreBytesOf, GivesBytesOf, Inputs}
+use Rattle.pmp_tool.specs.Inputs.{AreBytesOf, GivesBytesOf, Paths}
 use Rattle.pmp_tool.specs.Requests.{Declines, RequestFails, StopsInTrace}
 
 -- a call's refusal is its failure
@@ -24,12 +24,12 @@ pub stopped : {script trace : List ℕ} {first : ℕ} {before after : Option (Li
 stopped fault stops = record { fault = fault; is = refl; stops = stops }
 
 -- a failure for which what is asked for of a script gets no answer
-pub refused_so : (before after : Option (List ℕ)) (scripts traces : Inputs) (script : List ℕ) (request : Request)
+pub refused_so : (before after : Option (List ℕ)) (paths : Paths) (script : List ℕ) (request : Request)
     (result : Result Outcome Failure) (failure : Failure) → IsErrAnd result (λ told. told ≡ failure)
-    → RequestFails before after scripts traces script request failure
-    → IfErr result (RequestFails before after scripts traces script request)
-refused_so before after scripts traces script request (Ok outcome) failure is fails = tt
-refused_so before after scripts traces script request (Err told) failure is fails = rw is fails
+    → RequestFails before after paths script request failure
+    → IfErr result (RequestFails before after paths script request)
+refused_so before after paths script request (Ok outcome) failure is fails = tt
+refused_so before after paths script request (Err told) failure is fails = rw is fails
 
 -- what a reader of an input has left are the input's bytes
 pub bytes_given : (known remaining : Option (List ℕ)) (bytes : List ℕ) → GivesBytesOf known remaining

@@ -8,7 +8,7 @@ use Rattle.pmp_names.specs.HartLists.{names_of}
 use Rattle.pmp_tool.specs.declared.command.Command.{Command}
 use Rattle.pmp_tool.specs.declared.harts.Harts.{Harts}
 use Rattle.pmp_tool.specs.Commands.{Diff, asked}
-use Rattle.pmp_tool.specs.HartComparisons.{IsComparison, compares_locks}
+use Rattle.pmp_tool.specs.HartComparisons.{IsComparison}
 use Rattle.pmp_tool.specs.Harts.{path_on}
 
 pub are_none : (harts : List HartName) → length harts ≤ 0 → names_of harts ≡ []
@@ -23,16 +23,16 @@ first_of (hart ∷ more) first is =
     let same : hart ≡ first = cc in
     (names_of more, ap (λ (one : HartName). one.name.bytes ∷ names_of more) same)
 
-pub is_comparison : (command : Command) (harts : Harts) (one : Command) (others : Harts) (first : HartName) (script : Text)
-    (has_locks : Bool) → Some first ≡ slice_get harts.names.items 0
-    → script ≡ path_on true command.script.now first.name.bytes → has_locks ≡ compares_locks command.request
+pub is_comparison : (command : Command) (has_locks : Bool) (harts : Harts) (one : Command) (others : Harts)
+    (first : HartName) (script : Text) → Some first ≡ slice_get harts.names.items 0
+    → script ≡ path_on true command.script.now first.name.bytes
     → asked one ≡ record {
       script = script;
       task = Diff command.script.now None None (record { only = None; has_locks = has_locks });
     }
     → others ≡ record { old = false; new = true; names = harts.names }
-    → IsComparison command harts one others
-is_comparison command harts one others first script has_locks is path locks asks are =
+    → IsComparison command has_locks harts one others
+is_comparison command has_locks harts one others first script is path asks are =
     let (rest, names) = first_of harts.names.items first is in
     record {
       first = first.name.bytes;
@@ -41,10 +41,7 @@ is_comparison command harts one others first script has_locks is path locks asks
       asks = asks ∙ ap (λ (path : Text). record {
         script = path;
         task = Diff command.script.now None None (record { only = None; has_locks = has_locks });
-      }) path ∙ ap (λ (locks : Bool). record {
-        script = path_on true command.script.now first.name.bytes;
-        task = Diff command.script.now None None (record { only = None; has_locks = locks });
-      }) locks;
+      }) path;
       is_old = ap (λ (harts : Harts). harts.old) are;
       is_new = ap (λ (harts : Harts). harts.new) are;
       same = ap (λ (harts : Harts). harts.names) are;

@@ -23,7 +23,7 @@ use Rattle.pmp_tool.specs.Finding.{AreUnfoundAt, unfit, unlisted}
 use Rattle.pmp_tool.specs.HartSteps.{FailsOn, IsAnsweredOn, fails_alone, lacks_room, with_new}
 use Rattle.pmp_tool.specs.Harts.{AreAnswered, AreUnfound, HartAnswer, HartsFail, IsAnswered, all_rows, asked_on, new_script}
 use Rattle.pmp_tool.specs.Harts.{no_harts, no_room, on_hart, path_on, task_on, unread_folder, worse, worst}
-use Rattle.pmp_tool.specs.Inputs.{Folders, Inputs}
+use Rattle.pmp_tool.specs.Inputs.{Folders, Paths}
 use Rattle.pmp_tool.specs.Names.{named_by}
 
 -- why the folder at a path has no harts is why a command has none
@@ -60,13 +60,13 @@ asked_of_hart command harts name script new one is_script is_new is_task =
     ∙ ap (λ task. record { script = path_on harts.old command.script.now name; task = task })
     (is_task ∙ ap (λ path. with_new path (task_of command.request)) is_new ∙ task_asked harts.new name command.request)
 
-module _ {scripts traces : Inputs} (command : Command) (naming : Option Naming) (harts : Harts) where
+module _ {paths : Paths} (command : Command) (naming : Option Naming) (harts : Harts) where
   -- one hart more was answered
   pub answered_more : (name : Text) (rest : List Text) (before after : List ℕ) (was next : Outcome)
-      (answers : List HartAnswer) → AreAnswered scripts traces command harts (name ∷ rest) answers
+      (answers : List HartAnswer) → AreAnswered paths command harts (name ∷ rest) answers
       → before ≡ all_rows naming answers → was ≡ worst answers
-      → IsAnsweredOn scripts traces command naming harts name before after next
-      → (more : List HartAnswer) × AreAnswered scripts traces command harts rest more
+      → IsAnsweredOn paths command naming harts name before after next
+      → (more : List HartAnswer) × AreAnswered paths command harts rest more
       × (after ≡ all_rows naming more) × (worse was next ≡ worst more)
   answered_more name rest before after was next answers are rows outcome step =
       let name_of = λ (answer : HartAnswer). answer.name in
@@ -75,7 +75,7 @@ module _ {scripts traces : Inputs} (command : Command) (naming : Option Naming) 
       let one = step.answer in (
         answers ++ one ∷ [],
         record {
-          each = All-push (IsAnswered scripts traces command harts) answers one are.each step.is;
+          each = All-push (IsAnswered paths command harts) answers one are.each step.is;
           names = are.names ∙ ap (λ first. map name_of answers ++ first ∷ rest) (sym step.name_is)
               ∙ sym (append_assoc (map name_of answers) (one.name ∷ []) rest)
               ∙ ap (λ names. names ++ rest) (sym (map-append name_of answers (one ∷ [])));
@@ -89,16 +89,16 @@ module _ {scripts traces : Inputs} (command : Command) (naming : Option Naming) 
 
   -- one fails, behind those that were answered
   pub failed_on : (hart : HartName) (rest : List Text) (answers : List HartAnswer)
-      → AreAnswered scripts traces command harts (hart.name.bytes ∷ rest) answers
-      → (before : Option (List ℕ)) (failure : Failure) → FailsOn scripts traces command harts hart failure
-      → HartsFail scripts traces command naming harts before before failure
+      → AreAnswered paths command harts (hart.name.bytes ∷ rest) answers
+      → (before : Option (List ℕ)) (failure : Failure) → FailsOn paths command harts hart failure
+      → HartsFail paths command naming harts before before failure
   failed_on hart rest answers are before _ lacks_room = no_room (Keeps-refl before)
   failed_on hart rest answers are before _ (fails_alone one alone is fails) =
       rw fails.is (on_hart answers hart rest one fails.alone fails.part are is fails.fails (Keeps-refl before))
 
   -- none is left
   pub all_answered : (rest : List HartName) (answers : List HartAnswer) → length rest ≡ 0
-      → AreAnswered scripts traces command harts (names_of rest) answers
-      → AreAnswered scripts traces command harts [] answers
+      → AreAnswered paths command harts (names_of rest) answers
+      → AreAnswered paths command harts [] answers
   all_answered [] answers none are = are
   all_answered (hart ∷ more) answers none are = absurd (omega (arith, none))

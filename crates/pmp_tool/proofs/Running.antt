@@ -37,12 +37,12 @@ use Rattle.pmp_names.specs.AddressNames.{Named, names_said}
 use Rattle.pmp_names.specs.NameLists.{no_memory as no_memory_for_names}
 use Rattle.pmp_tool.specs.Failures.{failure_status, unaudited, unparsed, unparsed_as, unplanned}
 use Rattle.pmp_tool.specs.Failures.{unnamed as unnamed_so}
-use Rattle.pmp_tool.specs.Inputs.{AreBytesOf, Folders, Inputs}
+use Rattle.pmp_tool.specs.Inputs.{AreBytesOf, Inputs, Paths}
 use Rattle.pmp_tool.specs.Requests.{Declines, InputFails, MomentFails, RequestFails, allowed, taken, unnamed, untaken}
 use Rattle.pmp_tool.specs.declared.harts.Harts.{Harts}
 use Rattle.pmp_tool.specs.declared.naming.Naming.{Naming}
 use Rattle.pmp_tool.specs.CommandAnswers.{CommandFails, no_script, of_script}
-use Rattle.pmp_tool.specs.HartComparisons.{CantCompare, FolderFailsBy, cant_compare, compares_harts, no_first, no_path}
+use Rattle.pmp_tool.specs.HartComparisons.{CantCompare, FolderFailsBy, cant_compare, comparison, no_first, no_path}
 use Rattle.pmp_tool.specs.HartImports.{new_folder}
 use Rattle.pmp_tool.specs.Harts.{HartsFail, on_hart}
 use Rattle.pmp_tool.specs.Harts.{no_output as no_rows, no_room as no_rows_kept}
@@ -51,7 +51,7 @@ use Rattle.pmp_tool.specs.Runs.{Answers, Does, DoesNot, DoesNotAt, Fails, TextFa
 use Rattle.pmp_tool.specs.Runs.{does, does_not, no_harts, no_memory, no_names, no_output, no_room, no_room_for_names}
 use Rattle.pmp_tool.specs.Runs.{no_text, of_harts, of_one, once, refused_word, refused_words, tells, twice, undone}
 
-module _ (words : List Text) (scripts traces : Inputs) (folders : Folders) (before after : Option (List ℕ)) (error : Error)
+module _ (words : List Text) (paths : Paths) (before after : Option (List ℕ)) (error : Error)
     (has : HasKind (fault_of pmp_app words) error)
     (no_help : kind_of error ≢ DisplayHelp) (no_version : kind_of error ≢ DisplayVersion)
     (keeps : Keeps before after) where
@@ -61,14 +61,14 @@ module _ (words : List Text) (scripts traces : Inputs) (folders : Folders) (befo
   among kind is room (inr kinds) = kinds
 
   unparsed_words : (kind : ErrorKind) → kind_of error ≡ kind
-      → Fails words scripts traces folders before after (unparsed_as kind error)
+      → Fails words paths before after (unparsed_as kind error)
   unparsed_words OutOfMemory is = no_memory keeps
   unparsed_words kind is =
       refused_words error
       (record { kind = among kind is (λ e. absurd cc) has; no_help = no_help; no_version = no_version }) keeps
 
   -- clap refuses the words, or has no memory
-  pub refused_by_clap : Fails words scripts traces folders before after (unparsed error)
+  pub refused_by_clap : Fails words paths before after (unparsed error)
   refused_by_clap = unparsed_words (kind_of error) refl
 
 -- the words ask for a text
@@ -140,9 +140,9 @@ abbrev IsLong : Request → Type 0
 IsLong asked = ((audit : LongAudit) × (asked ≡ request.LongAudit audit))
     ⊎ ((import : Import) × (asked ≡ request.Import import))
 
-module _ (before after : Option (List ℕ)) (scripts traces : Inputs) where
+module _ (before after : Option (List ℕ)) (paths : Paths) where
   request_keeps : (script : List ℕ) (request : Request) (failure : Failure)
-      → RequestFails before after scripts traces script request failure
+      → RequestFails before after paths script request failure
       → failure_status failure ≡ 2 → IsLong request ⊎ Keeps before after
   request_keeps script (request.Check check) failure fails two =
       inr (moment_keeps fails (λ fails. declines_keep fails two))
@@ -167,56 +167,56 @@ module _ (before after : Option (List ℕ)) (scripts traces : Inputs) where
   request_keeps script request.PlanOf failure fails two =
       inr (plan_of_keeps fails.fails (sym (ap failure_status fails.is) ∙ two))
 
-  command_keeps : (command : Command) (failure : Failure) → CommandFails scripts traces command before after failure
+  command_keeps : (command : Command) (failure : Failure) → CommandFails paths command before after failure
       → failure_status failure ≡ 2 → IsLong command.request ⊎ Keeps before after
   command_keeps command _ (no_script fault cant keeps) two = inr keeps
   command_keeps command _ (of_script script failure are fails) two =
       request_keeps script command.request failure fails two
 
-harts_keep : {scripts traces : Inputs} {command : Command} {naming : Option Naming} {harts : Harts} {before after : Option (List ℕ)}
-    {failure : Failure} → HartsFail scripts traces command naming harts before after failure → failure_status failure ≡ 2
+harts_keep : {paths : Paths} {command : Command} {naming : Option Naming} {harts : Harts} {before after : Option (List ℕ)}
+    {failure : Failure} → HartsFail paths command naming harts before after failure → failure_status failure ≡ 2
     → Keeps before after
 harts_keep (on_hart answers hart rest one failure part are is fails keeps) two = keeps
 harts_keep (no_rows_kept keeps) two = keeps
 harts_keep (no_rows answers are front) two = absurd cc
 
-unlike_keep : {scripts traces : Inputs} {command : Command} {naming : Option Naming} {harts : Harts} {before after : Option (List ℕ)}
-    {failure : Failure} → CantCompare scripts traces command naming harts before after failure
+unlike_keep : {paths : Paths} {command : Command} {naming : Option Naming} {harts : Harts} {before after : Option (List ℕ)}
+    {has_locks : Bool} {failure : Failure} → CantCompare paths command naming harts before after has_locks failure
     → failure_status failure ≡ 2 → Keeps before after
 unlike_keep (cant_compare one others failure is failed) two = harts_keep failed two
 unlike_keep (no_first none keeps) two = keeps
 unlike_keep (no_path keeps) two = keeps
 
-folder_keeps : (scripts traces : Inputs) (command : Command) (naming : Option Naming) (harts : Harts)
-    (before after : Option (List ℕ)) (failure : Failure) (compares : Bool)
-    → FolderFailsBy scripts traces command naming harts before after compares failure → failure_status failure ≡ 2
+folder_keeps : (paths : Paths) (command : Command) (naming : Option Naming) (harts : Harts)
+    (before after : Option (List ℕ)) (failure : Failure) (compares : Option Bool)
+    → FolderFailsBy paths command naming harts before after compares failure → failure_status failure ≡ 2
     → Keeps before after
-folder_keeps scripts traces command naming harts before after failure true failed two = unlike_keep failed two
-folder_keeps scripts traces command naming harts before after failure false failed two = harts_keep failed two
+folder_keeps paths command naming harts before after failure (Some has_locks) failed two = unlike_keep failed two
+folder_keeps paths command naming harts before after failure None failed two = harts_keep failed two
 
-one_keeps : {scripts traces : Inputs} {command : Command} {before after : Option (List ℕ)} {naming : Option Naming}
-    {failure : Failure} → OneFails scripts traces command before after naming failure → failure_status failure ≡ 2
+one_keeps : {paths : Paths} {command : Command} {before after : Option (List ℕ)} {naming : Option Naming}
+    {failure : Failure} → OneFails paths command before after naming failure → failure_status failure ≡ 2
     → IsLong command.request ⊎ Keeps before after
-one_keeps {command = command} (at_once failure fails) two = command_keeps _ _ _ _ command failure fails two
+one_keeps {command = command} (at_once failure fails) two = command_keeps _ _ _ command failure fails two
 one_keeps (apart naming failure fails keeps) two = inr keeps
 one_keeps (unkept naming keeps) two = inr keeps
 one_keeps (unwritten naming outcome rows answers front) two = absurd cc
 
-by_keeps : {scripts traces : Inputs} {folders : Folders} {command : Command} {before after : Option (List ℕ)}
+by_keeps : {paths : Paths} {command : Command} {before after : Option (List ℕ)}
     {naming : Option Naming} {failure : Failure}
-    → UndoneBy scripts traces folders command before after naming failure → failure_status failure ≡ 2
+    → UndoneBy paths command before after naming failure → failure_status failure ≡ 2
     → IsLong command.request ⊎ Keeps before after
 by_keeps (no_harts failure unfound keeps) two = inr keeps
 by_keeps (of_one failure none fails) two = one_keeps fails two
 by_keeps {command = command} (of_harts harts failure some fails) two =
-    inr (folder_keeps _ _ command _ harts _ _ failure (compares_harts command.request) fails two)
+    inr (folder_keeps _ command _ harts _ _ failure (comparison command.request) fails two)
 
-for_keeps : (scripts traces : Inputs) (folders : Folders) (command : Command) (before after : Option (List ℕ))
+for_keeps : (paths : Paths) (command : Command) (before after : Option (List ℕ))
     (naming : Option Naming) (failure : Failure) (folder : Option (Import × Text))
-    → UndoneFor scripts traces folders command before after folder naming failure → failure_status failure ≡ 2
+    → UndoneFor paths command before after folder naming failure → failure_status failure ≡ 2
     → IsLong command.request ⊎ Keeps before after
-for_keeps scripts traces folders command before after naming failure None fails two = by_keeps fails two
-for_keeps scripts traces folders command before after naming failure (Some (import, path)) fails two = inr fails.1
+for_keeps paths command before after naming failure None fails two = by_keeps fails two
+for_keeps paths command before after naming failure (Some (import, path)) fails two = inr fails.1
 
 text_keeps : {before after : Option (List ℕ)} {failure : Failure} → TextFails before after failure
     → failure_status failure ≡ 2 → Keeps before after
@@ -224,25 +224,25 @@ text_keeps (no_room keeps) two = keeps
 text_keeps (no_output text front) two = absurd cc
 
 -- what is done of what clap found in the words is done of the words
-module _ (words : List Text) (scripts traces : Inputs) (folders : Folders) (before after : Option (List ℕ))
+module _ (words : List Text) (paths : Paths) (before after : Option (List ℕ))
     (fine : fault_of pmp_app words ≡ []) (found : Option (Text × List Row))
     (is : found ≡ subcommand_of pmp_app words) (result : Result Outcome Failure) where
-  pub answered : (made : Inputs) → IfOk result (Does found scripts traces folders before after made)
-      → IfOk result (Answers words scripts traces folders before after made)
+  pub answered : (made : Paths) → IfOk result (Does found paths before after made)
+      → IfOk result (Answers words paths before after made)
   answered made = IfOk-weaker result _ _ (λ outcome done. does outcome fine (rw is at done))
 
-  pub unanswered : IfErr result (DoesNot found scripts traces folders before after)
-      → IfErr result (Fails words scripts traces folders before after)
+  pub unanswered : IfErr result (DoesNot found paths before after)
+      → IfErr result (Fails words paths before after)
   unanswered = IfErr-weaker result _ _ (λ failure done. does_not failure fine (rw is at done))
 
 -- a text that they ask for was written
-pub text_told : (words : List Text) (scripts traces : Inputs) (folders : Folders) (before after : Option (List ℕ))
+pub text_told : (words : List Text) (paths : Paths) (before after : Option (List ℕ))
     → MayAskForText words → (result : Result Outcome Failure)
     → IfOk result (λ outcome. (outcome ≡ Told) × ((bytes : List ℕ) × Appends before after bytes))
-    → IfOk result (Answers words scripts traces folders before after scripts)
-text_told words scripts traces folders before after may (Ok outcome) (is, (text, written)) =
+    → IfOk result (Answers words paths before after paths)
+text_told words paths before after may (Ok outcome) (is, (text, written)) =
     rw is (tells text may written refl)
-text_told words scripts traces folders before after may (Err failure) told = tt
+text_told words paths before after may (Err failure) told = tt
 
 -- a command of a long audit is what the words ask for
 long_or_kept : (words : List Text) (names : List Named) (command : Command) (before after : Option (List ℕ))
@@ -275,9 +275,9 @@ long_or_kept words names command before after asks (inl (inl (audit, is))) =
     }))
 long_or_kept words names command before after asks (inr keeps) = inr keeps
 
-does_not_keep : (words : List Text) {scripts traces : Inputs} {folders : Folders} {before after : Option (List ℕ)}
+does_not_keep : (words : List Text) {paths : Paths} {before after : Option (List ℕ)}
     {path : Option Text} {failure : Failure} → fault_of pmp_app words ≡ []
-    → DoesNotAt (subcommand_of pmp_app words) scripts traces folders before after path failure
+    → DoesNotAt (subcommand_of pmp_app words) paths before after path failure
     → failure_status failure ≡ 2 → AsksForPieces words ⊎ Keeps before after
 does_not_keep words fine (no_names at fault is cant keeps) two = inr keeps
 does_not_keep words fine (bad_names at text fault is those bad keeps) two = inr keeps
@@ -285,17 +285,17 @@ does_not_keep words fine (no_room_for_names keeps) two = inr keeps
 does_not_keep words fine (refused_word names fault are refused keeps) two = inr keeps
 does_not_keep words fine (undone command naming failure asks fails) two =
     long_or_kept words asks.names command _ _ (fine, asks.asks)
-    (for_keeps _ _ _ command _ _ naming failure (new_folder command.request) fails two)
+    (for_keeps _ command _ _ naming failure (new_folder command.request) fails two)
 
-none_kept : (words : List Text) {scripts traces : Inputs} {folders : Folders} {before after : Option (List ℕ)}
+none_kept : (words : List Text) {paths : Paths} {before after : Option (List ℕ)}
     {failure : Failure} → fault_of pmp_app words ≡ []
-    → DoesNot (subcommand_of pmp_app words) scripts traces folders before after failure
+    → DoesNot (subcommand_of pmp_app words) paths before after failure
     → failure_status failure ≡ 2 → AsksForPieces words ⊎ Keeps before after
 none_kept words fine (twice fault both keeps) two = inr keeps
 none_kept words fine (once path failure at fails) two = does_not_keep words fine fails two
 
-pub keeps_at_two : {words : List Text} {scripts traces : Inputs} {folders : Folders} {before after : Option (List ℕ)} {failure : Failure}
-    → Fails words scripts traces folders before after failure → failure_status failure ≡ 2
+pub keeps_at_two : {words : List Text} {paths : Paths} {before after : Option (List ℕ)} {failure : Failure}
+    → Fails words paths before after failure → failure_status failure ≡ 2
     → AsksForPieces words ⊎ Keeps before after
 keeps_at_two (refused_words error refused keeps) two = inr keeps
 keeps_at_two (no_memory keeps) two = inr keeps
@@ -303,11 +303,11 @@ keeps_at_two (no_text failure asked fails) two = inr (text_keeps fails two)
 keeps_at_two {words = words} (does_not failure fine fails) two = none_kept words fine fails two
 
 -- names that can't be read are why nothing is done
-pub names_fail : (found : Option (Text × List Row)) (scripts traces : Inputs) (folders : Folders)
-    (before after : Option (List ℕ)) (path text : List ℕ) (fault : NamesFault) → AreBytesOf (traces path) text
+pub names_fail : (found : Option (Text × List Row)) (paths : Paths)
+    (before after : Option (List ℕ)) (path text : List ℕ) (fault : NamesFault) → AreBytesOf (paths.traces path) text
     → (fault ≡ no_memory_for_names) ⊎ (names_said text ≡ Err fault) → Keeps before after
-    → DoesNotAt found scripts traces folders before after (Some path) (unnamed_so fault)
-names_fail found scripts traces folders before after path text fault is (inl memory) keeps =
+    → DoesNotAt found paths before after (Some path) (unnamed_so fault)
+names_fail found paths before after path text fault is (inl memory) keeps =
     rw memory (no_room_for_names keeps)
-names_fail found scripts traces folders before after path text fault is (inr bad) keeps =
+names_fail found paths before after path text fault is (inr bad) keeps =
     bad_names path text fault refl is bad keeps

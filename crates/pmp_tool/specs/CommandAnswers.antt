@@ -14,7 +14,7 @@ use Rattle.pmp_tool.specs.declared.request.Request.{Request}
 use Rattle.pmp_tool.specs.declared.request.Request.TheVariants.{Import as OfLog}
 use Rattle.pmp_tool.specs.Expected.{is_met}
 use Rattle.pmp_tool.specs.Failures.{unread}
-use Rattle.pmp_tool.specs.Inputs.{AreBytesOf, CantBeRead, Inputs}
+use Rattle.pmp_tool.specs.Inputs.{AreBytesOf, CantBeRead, Paths}
 use Rattle.pmp_tool.specs.Requests.{RequestFails, RequestSays, old_side}
 
 -- the bytes are those of the command's script; an import has none
@@ -23,11 +23,11 @@ IsScriptOf (OfLog import) known script = ⊤
 IsScriptOf _ known script = AreBytesOf known script
 
 -- a command's script was read, and its output written
-pub record CommandAnswers (scripts traces : Inputs) (command : Command) (before after : Option (List ℕ))
+pub record CommandAnswers (paths : Paths) (command : Command) (before after : Option (List ℕ))
     (outcome : Outcome) : Type 0 where
   pub script : List ℕ
-  pub read : IsScriptOf command.request (scripts command.script.now) script
-  pub written : IsWritten (RequestSays scripts traces script command.request) before after outcome
+  pub read : IsScriptOf command.request (paths.scripts command.script.now) script
+  pub written : IsWritten (RequestSays paths script command.request) before after outcome
 
 -- a script can't be read, of two the one on this side, or processing it fails
 pub data IsUnscripted (before after : Option (List ℕ)) (known : Option (List ℕ)) (side : Option Side) (request : Request)
@@ -38,10 +38,10 @@ pub data IsUnscripted (before after : Option (List ℕ)) (known : Option (List �
       → IsUnscripted before after known side request Fails failure
 
 -- why a command fails: its script can't be read, or processing it fails
-abbrev pub CommandFails : (scripts traces : Inputs) → Command → (before after : Option (List ℕ)) → Failure → Type 0
-CommandFails scripts traces command before after =
-    IsUnscripted before after (scripts command.script.now) (old_side command.request) command.request
-    (λ script. RequestFails before after scripts traces script command.request)
+abbrev pub CommandFails : (paths : Paths) → Command → (before after : Option (List ℕ)) → Failure → Type 0
+CommandFails paths command before after =
+    IsUnscripted before after (paths.scripts command.script.now) (old_side command.request) command.request
+    (λ script. RequestFails before after paths script command.request)
 
 -- status 0: a check with the expected answer, a `why` with an access allowed, an audit with all accesses allowed, a
 -- policy with no row broken, writes all stored as written with all expectations met, a comparison or a lint without

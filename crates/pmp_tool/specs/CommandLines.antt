@@ -51,8 +51,10 @@ topic_app name = let app = new_app name in record app {
 -- and with a help topic for each format
 abbrev pub pmp_app : App
 pmp_app =
-    with_command (with_command (with_command commands_app (topic_app (codes "script"))) (topic_app (codes "trace")))
-    (topic_app (codes "rows"))
+    let script = with_command commands_app (topic_app (codes "script")) in
+    let trace = with_command script (topic_app (codes "trace")) in
+    let names = with_command trace (topic_app (codes "names")) in
+    with_command names (topic_app (codes "rows"))
 
 -- clap accepts the words, and its matches ask for this, with these names for addresses
 abbrev pub WordsAskFor : List Named → List Text → Asked → Type 0

@@ -22,7 +22,7 @@ use Rattle.pmp_tool.specs.declared.request.Request.TheVariants as request
 use Rattle.pmp_tool.specs.CommandAnswers.{CommandAnswers}
 use Rattle.pmp_tool.specs.Failures.{refused, unimported}
 use Rattle.pmp_tool.specs.HartScripts.{AreMade, CantBeMade}
-use Rattle.pmp_tool.specs.Inputs.{AreBytesOf, CantBeOpened, Inputs}
+use Rattle.pmp_tool.specs.Inputs.{AreBytesOf, CantBeOpened, Paths}
 use Rattle.pmp_tool.specs.NamedAnswers.{FailsApart}
 
 -- the harts from this number on that have writes, by each hart's count
@@ -54,11 +54,11 @@ pub data IsUnfound (known : Option (List ℕ)) (format : Format) : Failure → T
   unsurveyed : (log : List ℕ) (fault : ImportFault) → AreBytesOf known log
       → Stops (surveyed format None (lines log)) log fault → IsUnfound known format (unimported fault)
 
-module _ (scripts traces : Inputs) (command : Command) (import : Import) where
+module _ (paths : Paths) (command : Command) (import : Import) where
   -- the text is the output of this hart's import
   pub record IsOfHart (script : HartScript) : Type 0 where
     pub outcome : Outcome
-    pub answers : CommandAnswers scripts traces (command_of script.hart import command) (Some []) (Some script.text.items)
+    pub answers : CommandAnswers paths (command_of script.hart import command) (Some []) (Some script.text.items)
         outcome
 
   -- these are the scripts of these harts
@@ -75,27 +75,27 @@ module _ (scripts traces : Inputs) (command : Command) (import : Import) where
 
   -- the import of one hart fails, or there is no memory for its script
   pub data OneFails : Failure → Type 0 where
-    of_hart : (hart : ℕ) (failure : Failure) → FailsApart scripts traces (command_of hart import command) failure
+    of_hart : (hart : ℕ) (failure : Failure) → FailsApart paths (command_of hart import command) failure
         → OneFails failure
     unkept : OneFails (refused Memory)
 
   -- the folder at a path has the scripts of the harts that have writes
-  pub record Makes (path : Text) (made : Inputs) (outcome : Outcome) : Type 0 where
+  pub record Makes (path : Text) (made : Paths) (outcome : Outcome) : Type 0 where
     pub survey : Survey
-    pub found : IsFound (traces import.log.now) import.format survey
+    pub found : IsFound (paths.traces import.log.now) import.format survey
     pub all : List HartScript
     pub are : AreOf (writers survey) all
     pub some : 0 < length all
-    pub in_folder : AreMade path all made
+    pub in_folder : AreMade path all made.scripts
     pub is : outcome ≡ Imported (Scripts (length all))
 
   -- why there is no folder: the log can't be read or has no hart, an import fails, or the folder can't be made
   pub data CantMake : Failure → Type 0 where
-    unread_log : (failure : Failure) → IsUnfound (traces import.log.now) import.format failure → CantMake failure
-    no_harts : (survey : Survey) → IsFound (traces import.log.now) import.format survey → writers survey ≡ []
+    unread_log : (failure : Failure) → IsUnfound (paths.traces import.log.now) import.format failure → CantMake failure
+    no_harts : (survey : Survey) → IsFound (paths.traces import.log.now) import.format survey → writers survey ≡ []
         → CantMake (refused NoHart)
     one_fails : (failure : Failure) → OneFails failure → CantMake failure
-    unmade : (survey : Survey) → IsFound (traces import.log.now) import.format survey
+    unmade : (survey : Survey) → IsFound (paths.traces import.log.now) import.format survey
         → (all : List HartScript) → AreOf (writers survey) all → 0 < length all
         → (fault : Refusal) → CantBeMade fault → CantMake (refused fault)
 

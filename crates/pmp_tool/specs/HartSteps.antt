@@ -12,7 +12,7 @@ use Rattle.pmp_tool.specs.declared.outcome.Outcome.{Outcome}
 use Rattle.pmp_tool.specs.Commands.{Diff, Task, asked}
 use Rattle.pmp_tool.specs.Failures.{of_hart, refused}
 use Rattle.pmp_tool.specs.Harts.{HartAnswer, IsAnswered, asked_on}
-use Rattle.pmp_tool.specs.Inputs.{Inputs}
+use Rattle.pmp_tool.specs.Inputs.{Paths}
 use Rattle.pmp_tool.specs.NamedAnswers.{FailsApart}
 use Rattle.pmp_tool.specs.Names.{named_by}
 
@@ -21,17 +21,17 @@ abbrev pub with_new : (path : Text) → Task → Task
 with_new path (Diff new old_after new_after changes) = Diff path old_after new_after changes
 with_new path task = task
 
-module _ (scripts traces : Inputs) (command : Command) (naming : Option Naming) where
+module _ (paths : Paths) (command : Command) (naming : Option Naming) where
   -- one hart was answered, and its rows were appended, each after its name
   pub record IsAnsweredOn (harts : Harts) (name : Text) (before after : List ℕ) (outcome : Outcome) : Type 0 where
     pub answer : HartAnswer
-    pub is : IsAnswered scripts traces command harts answer
+    pub is : IsAnswered paths command harts answer
     pub name_is : answer.name ≡ name
     pub outcome_is : answer.outcome ≡ outcome
     pub rows : after ≡ before ++ named_rows name (named_by naming answer.rows)
 
-module _ (scripts traces : Inputs) (command : Command) (harts : Harts) (hart : HartName) where
+module _ (paths : Paths) (command : Command) (harts : Harts) (hart : HartName) where
   pub data FailsOn : Failure → Type 0 where
     fails_alone : (one : Command) (failure : Failure) → asked one ≡ asked_on harts hart.name.bytes (asked command)
-        → FailsApart scripts traces one failure → FailsOn (of_hart hart.name failure)
+        → FailsApart paths one failure → FailsOn (of_hart hart.name failure)
     lacks_room : FailsOn (refused Memory)

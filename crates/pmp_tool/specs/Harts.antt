@@ -25,7 +25,7 @@ use Rattle.pmp_tool.specs.declared.request.Request.TheVariants as request
 use Rattle.pmp_tool.specs.Commands.{Asked, Diff, Task, asked}
 use Rattle.pmp_tool.specs.Failures.{in_memory, of_hart, refused, unread}
 use Rattle.pmp_tool.specs.Names.{named_by}
-use Rattle.pmp_tool.specs.Inputs.{CantBeOpened, Folders, Inputs, IsFolder}
+use Rattle.pmp_tool.specs.Inputs.{CantBeOpened, Folders, IsFolder, Paths}
 use Rattle.pmp_tool.specs.CommandAnswers.{CommandAnswers, CommandFails, outcome_status}
 
 -- ---- the harts that a command is for
@@ -123,12 +123,12 @@ pub record HartAnswer : Type 0 where
   pub outcome : Outcome
   pub rows : List ℕ
 
-module _ (scripts traces : Inputs) (command : Command) (harts : Harts) where
+module _ (paths : Paths) (command : Command) (harts : Harts) where
   -- the command on this hart alone, and its rows
   pub record IsAnswered (answer : HartAnswer) : Type 0 where
     pub one : Command
     pub is_on : asked one ≡ asked_on harts answer.name (asked command)
-    pub answers : CommandAnswers scripts traces one (Some []) (Some answer.rows) answer.outcome
+    pub answers : CommandAnswers paths one (Some []) (Some answer.rows) answer.outcome
 
 -- all rows, each after its hart's name, and followed by the names of its bytes
 abbrev pub all_rows : Option Naming → List HartAnswer → List ℕ
@@ -141,26 +141,26 @@ worse first second = if outcome_status first == 0 then second else first
 abbrev pub worst : List HartAnswer → Outcome
 worst answers = fold (λ outcome answer. worse outcome answer.outcome) Listed answers
 
-module _ (scripts traces : Inputs) (command : Command) (harts : Harts) where
+module _ (paths : Paths) (command : Command) (harts : Harts) where
   -- the harts before `rest` were answered
   pub record AreAnswered (rest : List Text) (answers : List HartAnswer) : Type 0 where
-    pub each : All (IsAnswered scripts traces command harts) answers
+    pub each : All (IsAnswered paths command harts) answers
     pub names : names_of harts.names.items ≡ map (λ answer. answer.name) answers ++ rest
 
-module _ (scripts traces : Inputs) (command : Command) (naming : Option Naming) (harts : Harts) where
+module _ (paths : Paths) (command : Command) (naming : Option Naming) (harts : Harts) where
   pub record HartsAnswer (before after : Option (List ℕ)) (outcome : Outcome) : Type 0 where
     pub answers : List HartAnswer
-    pub are : AreAnswered scripts traces command harts [] answers
+    pub are : AreAnswered paths command harts [] answers
     pub written : Appends before after (all_rows naming answers)
     pub is : outcome ≡ worst answers
 
   -- why they get no answer: a hart's command fails, memory runs out, or the output fails, perhaps after a part
   pub data HartsFail (before after : Option (List ℕ)) : Failure → Type 0 where
     on_hart : (answers : List HartAnswer) (hart : HartName) (rest : List Text) (one : Command) (failure : Failure)
-        (part : Option (List ℕ)) → AreAnswered scripts traces command harts (hart.name.bytes ∷ rest) answers
+        (part : Option (List ℕ)) → AreAnswered paths command harts (hart.name.bytes ∷ rest) answers
         → asked one ≡ asked_on harts hart.name.bytes (asked command)
-        → CommandFails scripts traces one (Some []) part failure → Keeps before after
+        → CommandFails paths one (Some []) part failure → Keeps before after
         → HartsFail before after (of_hart hart.name (in_memory failure))
     no_room : Keeps before after → HartsFail before after (refused Memory)
-    no_output : (answers : List HartAnswer) → AreAnswered scripts traces command harts [] answers → AppendsBeginning before after (all_rows naming answers)
+    no_output : (answers : List HartAnswer) → AreAnswered paths command harts [] answers → AppendsBeginning before after (all_rows naming answers)
         → HartsFail before after (refused Output)

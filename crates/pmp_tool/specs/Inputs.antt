@@ -1,5 +1,5 @@
 -- What is known of the program's inputs, and what reading them gives.
-use Rattle.std.specs.Prelude.{◌≡◌, ◌⊎◌, ℕ, ◌<◌, List, length, Option, Some, IfSome}
+use Rattle.std.specs.Prelude.{◌≡◌, ◌⊎◌, ℕ, ◌<◌, List, length, Option, None, Some, IfSome}
 use Rattle.pmp_text.specs.declared.refusal.Refusal.{Refusal}
 use Rattle.pmp_text.specs.declared.refusal.Refusal.TheVariants.{TooLong, Input, Memory}
 
@@ -10,6 +10,17 @@ Inputs = List ℕ → Option (List ℕ)
 -- the file names of the folder at each path, or none if there is no folder, if known
 abbrev pub Folders : Type 0
 Folders = List ℕ → Option (Option (List (List ℕ)))
+
+-- what stands at each path, as far as known: the bytes of a script, the bytes of a trace, a policy or a log, and a
+-- folder's file names
+pub record Paths : Type 0 where
+  pub scripts : Inputs
+  pub traces : Inputs
+  pub folders : Folders
+
+-- nothing is known
+pub unknown : Paths
+unknown = record { scripts = λ path. None; traces = λ path. None; folders = λ path. None }
 
 -- a path is a folder with these files, or no folder, as far as known
 abbrev pub IsFolder : (known : Option (Option (List (List ℕ)))) → (found : Option (List (List ℕ))) → Type 0

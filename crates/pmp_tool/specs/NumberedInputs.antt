@@ -5,7 +5,7 @@ use Rattle.pmp_names.specs.AddressNames.{Named}
 use Rattle.pmp_names.specs.NameLists.{named}
 use Rattle.pmp_names.specs.NumberedTexts.{numbered_text}
 use Rattle.pmp_tool.specs.declared.naming.Naming.{Naming}
-use Rattle.pmp_tool.specs.Inputs.{Inputs}
+use Rattle.pmp_tool.specs.Inputs.{Inputs, Paths}
 
 -- a text that is longer than a trace may be stays as it is
 abbrev pub numbered_within : List Named → (text : List ℕ) → List ℕ
@@ -15,3 +15,6 @@ numbered_within names text = if nat_lt MAX_TRACE (length text) then text else nu
 abbrev pub traces_for : Option Naming → (traces : Inputs) → Inputs
 traces_for None traces = traces
 traces_for (Some naming) traces = λ path. option_map (numbered_within (map named naming.names.now)) (traces path)
+
+abbrev pub paths_for : Option Naming → Paths → Paths
+paths_for naming paths = record paths { traces = traces_for naming paths.traces }

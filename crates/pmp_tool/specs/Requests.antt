@@ -52,7 +52,7 @@ use Rattle.pmp_tool.specs.declared.note.Note.{Note}
 use Rattle.pmp_tool.specs.declared.note.Note.TheVariants.{Guessed, Taken}
 use Rattle.pmp_tool.specs.declared.request.Import.{Import}
 use Rattle.pmp_tool.specs.Failures.{refused, unaudited, unimported, unplanned, unread}
-use Rattle.pmp_tool.specs.Inputs.{AreBytesOf, CantBeOpened, CantBeRead, Inputs}
+use Rattle.pmp_tool.specs.Inputs.{AreBytesOf, CantBeOpened, CantBeRead, Paths}
 use Rattle.pmp_tool.specs.Words.{bad_word}
 
 -- which side the command's script is on, if there are two
@@ -110,28 +110,28 @@ pub data ImportFails (known : Option (List ℕ)) (import : Import) (before after
 -- ---- answers
 
 -- which text belongs to which outcome of a request for this script
-abbrev pub RequestSays : (scripts traces : Inputs) (script : List ℕ) → Request → Outcome → (text : List ℕ) → Type 0
-RequestSays scripts traces script (Check check) (Decided decision asked) text =
+abbrev pub RequestSays : (paths : Paths) (script : List ℕ) → Request → Outcome → (text : List ℕ) → Type 0
+RequestSays paths script (Check check) (Decided decision asked) text =
     (asked ≡ check) × CheckSays script check.access check.after decision text
-RequestSays scripts traces script (Why why) (Explained decision is_bare) text =
+RequestSays paths script (Why why) (Explained decision is_bare) text =
     (is_bare ≡ why.is_bare) × ReasonsSay script why.access why.after decision text
-RequestSays scripts traces script (Audit audit) (Audited summary) text =
-    (trace : List ℕ) × AreBytesOf (traces audit.trace.now) trace × AuditSays script trace summary text
-RequestSays scripts traces script (LongAudit audit) (Audited summary) text =
-    (trace : List ℕ) × AreBytesOf (traces audit.trace.now) trace × LongAuditSays script audit.first trace summary text
-RequestSays scripts traces script (Policy path pace) (Judged summary) text =
-    (policy : List ℕ) × AreBytesOf (traces path.now) policy × PolicySays pace script policy summary text
-RequestSays scripts traces script (Show view after) Listed text = ViewSays view script after tt text
-RequestSays scripts traces script Writes (Replayed summary) text = WritesSay script summary text
-RequestSays scripts traces script (Lint accepted) (Found told) text =
+RequestSays paths script (Audit audit) (Audited summary) text =
+    (trace : List ℕ) × AreBytesOf (paths.traces audit.trace.now) trace × AuditSays script trace summary text
+RequestSays paths script (LongAudit audit) (Audited summary) text =
+    (trace : List ℕ) × AreBytesOf (paths.traces audit.trace.now) trace × LongAuditSays script audit.first trace summary text
+RequestSays paths script (Policy path pace) (Judged summary) text =
+    (policy : List ℕ) × AreBytesOf (paths.traces path.now) policy × PolicySays pace script policy summary text
+RequestSays paths script (Show view after) Listed text = ViewSays view script after tt text
+RequestSays paths script Writes (Replayed summary) text = WritesSay script summary text
+RequestSays paths script (Lint accepted) (Found told) text =
     FindingsSay script (option_to_list accepted) told text
-RequestSays scripts traces script (Diff diff) (Compared rows) text =
-    (new : List ℕ) × AreBytesOf (scripts diff.new.now) new
+RequestSays paths script (Diff diff) (Compared rows) text =
+    (new : List ℕ) × AreBytesOf (paths.scripts diff.new.now) new
     × DiffSays script diff.old_after new diff.new_after diff.changes rows text
-RequestSays scripts traces script (OfLog import) (Imported note) text =
-    ImportSays (traces import.log.now) import note text
-RequestSays scripts traces text (Plan plan) Listed written = Tells plan.hart plan.security plan.form text written
-RequestSays scripts traces script PlanOf Listed text = IsPlanOfScript script text
+RequestSays paths script (OfLog import) (Imported note) text =
+    ImportSays (paths.traces import.log.now) import note text
+RequestSays paths text (Plan plan) Listed written = Tells plan.hart plan.security plan.form text written
+RequestSays paths script PlanOf Listed text = IsPlanOfScript script text
 RequestSays _ _ _ _ _ _ = ⊥
 
 -- which faults an audit is refused for; several checkers may also lack a place
@@ -187,7 +187,7 @@ module _ (before after : Option (List ℕ)) where
     pub is : failure ≡ unaudited fault
     pub stops : StopsLong PIECE script first trace before after fault
 
-  module _ (scripts traces : Inputs) (script : List ℕ) where
+  module _ (paths : Paths) (script : List ℕ) where
     -- why a request for a script fails
     abbrev pub RequestFails : Request → Failure → Type 0
     RequestFails (Check check) =
@@ -197,24 +197,24 @@ module _ (before after : Option (List ℕ)) where
         MomentFails script argument.After why.after
         (Declines (ReasonsSay script why.access why.after) (FileRefuses script why.after))
     RequestFails (Audit audit) =
-        TraceFails (traces audit.trace.now)
+        TraceFails (paths.traces audit.trace.now)
         (λ trace. Declines (AuditSays script trace) (AuditByRefuses audit.checkers script trace))
     RequestFails (LongAudit audit) =
-        InputFails CantBeOpened (traces audit.trace.now) None (StopsInTrace script audit.first)
+        InputFails CantBeOpened (paths.traces audit.trace.now) None (StopsInTrace script audit.first)
     RequestFails (Policy path pace) =
-        TraceFails (traces path.now) (λ policy. Declines (PolicySays pace script policy) (PolicyRefuses script policy))
+        TraceFails (paths.traces path.now) (λ policy. Declines (PolicySays pace script policy) (PolicyRefuses script policy))
     RequestFails (Show view when) =
         MomentFails script argument.After when (Declines (ViewSays view script when) (FileRefuses script when))
     RequestFails Writes = Declines (WritesSay script) (WritesRefuse script)
     RequestFails (Lint accepted) = Declines (FindingsSay script (option_to_list accepted)) (WritesRefuse script)
     RequestFails (Diff diff) =
         MomentFails script argument.OldAfter diff.old_after
-        (ScriptFails (scripts diff.new.now) (Some New)
+        (ScriptFails (paths.scripts diff.new.now) (Some New)
         (λ new. MomentFails new argument.NewAfter diff.new_after
         (Declines (DiffSays script diff.old_after new diff.new_after diff.changes)
         (DiffRefuses script diff.old_after new diff.new_after))))
     -- one script has no other hart
     RequestFails (Harts has_locks) = λ failure. (failure ≡ refused BadFolder) × Keeps before after
-    RequestFails (OfLog import) = ImportFails (traces import.log.now) import before after
+    RequestFails (OfLog import) = ImportFails (paths.traces import.log.now) import before after
     RequestFails (Plan plan) = IsUnplanned (PlanFails plan.hart plan.security plan.form script before after)
     RequestFails PlanOf = IsUnplanned (PlanOfFails script before after)

@@ -25,40 +25,40 @@ use Rattle.pmp_tool.specs.Failures.{refused, unnamed}
 use Rattle.pmp_tool.specs.HartComparisons.{FolderAnswer, FolderFails}
 use Rattle.pmp_tool.specs.HartImports.{CantMake, Makes, new_folder}
 use Rattle.pmp_tool.specs.Harts.{AreUnfound, IsOfNone, IsOfSome}
-use Rattle.pmp_tool.specs.Inputs.{AreBytesOf, CantBeRead, Folders, Inputs}
+use Rattle.pmp_tool.specs.Inputs.{AreBytesOf, CantBeRead, Inputs, Paths}
 use Rattle.pmp_tool.specs.NamedAnswers.{OneAnswer, OneFails}
 use Rattle.pmp_tool.specs.Names.{output_of, plain_naming}
-use Rattle.pmp_tool.specs.NumberedInputs.{traces_for}
+use Rattle.pmp_tool.specs.NumberedInputs.{paths_for}
 
-module _ (scripts traces : Inputs) (folders : Folders) (command : Command) (before after : Option (List ℕ)) where
+module _ (paths : Paths) (command : Command) (before after : Option (List ℕ)) where
   -- what a command asks for was written: of the hart of its script, or of each hart of a folder
   abbrev pub DoneBy : Option Naming → Outcome → Type 0
   DoneBy naming outcome =
-      (IsOfNone folders command × OneAnswer scripts (traces_for naming traces) command before after naming outcome)
-      ⊎ ((harts : Harts) × IsOfSome folders command harts
-      × FolderAnswer scripts (traces_for naming traces) command naming harts before after outcome)
+      (IsOfNone paths.folders command × OneAnswer (paths_for naming paths) command before after naming outcome)
+      ⊎ ((harts : Harts) × IsOfSome paths.folders command harts
+      × FolderAnswer (paths_for naming paths) command naming harts before after outcome)
 
   -- why it gets no answer
   pub data UndoneBy (naming : Option Naming) : Failure → Type 0 where
-    no_harts : (failure : Failure) → AreUnfound folders command failure → Keeps before after
+    no_harts : (failure : Failure) → AreUnfound paths.folders command failure → Keeps before after
         → UndoneBy naming failure
-    of_one : (failure : Failure) → IsOfNone folders command
-        → OneFails scripts (traces_for naming traces) command before after naming failure → UndoneBy naming failure
-    of_harts : (harts : Harts) (failure : Failure) → IsOfSome folders command harts
-        → FolderFails scripts (traces_for naming traces) command naming harts before after failure
+    of_one : (failure : Failure) → IsOfNone paths.folders command
+        → OneFails (paths_for naming paths) command before after naming failure → UndoneBy naming failure
+    of_harts : (harts : Harts) (failure : Failure) → IsOfSome paths.folders command harts
+        → FolderFails (paths_for naming paths) command naming harts before after failure
         → UndoneBy naming failure
 
-  -- a folder was made where it asks for one, and the scripts at all paths are as before where it doesn't
-  abbrev pub DoneFor : Option (Import × Text) → Option Naming → (made : Inputs) → Outcome → Type 0
-  DoneFor None naming made outcome = DoneBy naming outcome × (made ≡ scripts)
+  -- a folder was made where it asks for one, and all paths are as before where it doesn't
+  abbrev pub DoneFor : Option (Import × Text) → Option Naming → (made : Paths) → Outcome → Type 0
+  DoneFor None naming made outcome = DoneBy naming outcome × (made ≡ paths)
   DoneFor (Some (import, path)) naming made outcome =
-      Makes scripts traces command import path made outcome × Keeps before after
+      Makes paths command import path made outcome × Keeps before after
 
   abbrev pub UndoneFor : Option (Import × Text) → Option Naming → Failure → Type 0
   UndoneFor None naming failure = UndoneBy naming failure
-  UndoneFor (Some (import, path)) naming failure = CantMake scripts traces command import failure × Keeps before after
+  UndoneFor (Some (import, path)) naming failure = CantMake paths command import failure × Keeps before after
 
-  abbrev pub Done : Option Naming → (made : Inputs) → Outcome → Type 0
+  abbrev pub Done : Option Naming → (made : Paths) → Outcome → Type 0
   Done = DoneFor (new_folder command.request)
 
   abbrev pub Undone : Option Naming → Failure → Type 0
@@ -77,38 +77,38 @@ IsNamingAt None names request naming = naming ≡ None
 IsNamingAt (Some path) names request naming =
     plain_naming naming ≡ Some (names, output_of request)
 
-module _ (found : Option (Text × List Row)) (scripts traces : Inputs) (folders : Folders) (before after : Option (List ℕ)) where
+module _ (found : Option (Text × List Row)) (paths : Paths) (before after : Option (List ℕ)) where
   module _ (path : Option Text) where
     -- it asks for this command, where addresses have the names of the text at the path
     pub record AsksFor (command : Command) (naming : Option Naming) : Type 0 where
       pub names : List Named
-      pub are : AreNamesAt traces path names
+      pub are : AreNamesAt paths.traces path names
       pub asks : asked_of names found ≡ Ok (asked command)
       pub rows : IsNamingAt path names command.request naming
 
     -- that was done
-    pub record DoesAt (made : Inputs) (outcome : Outcome) : Type 0 where
+    pub record DoesAt (made : Paths) (outcome : Outcome) : Type 0 where
       pub command : Command
       pub naming : Option Naming
       pub asks : AsksFor command naming
-      pub done : Done scripts traces folders command before after naming made outcome
+      pub done : Done paths command before after naming made outcome
 
     -- why it isn't
     pub data DoesNotAt : Failure → Type 0 where
-      no_names : (at : Text) (fault : Refusal) → path ≡ Some at → CantBeRead MAX_TRACE (traces at) fault
+      no_names : (at : Text) (fault : Refusal) → path ≡ Some at → CantBeRead MAX_TRACE (paths.traces at) fault
           → Keeps before after → DoesNotAt (refused fault)
-      bad_names : (at text : List ℕ) (fault : NamesFault) → path ≡ Some at → AreBytesOf (traces at) text
+      bad_names : (at text : List ℕ) (fault : NamesFault) → path ≡ Some at → AreBytesOf (paths.traces at) text
           → names_said text ≡ Err fault → Keeps before after → DoesNotAt (unnamed fault)
       no_room_for_names : Keeps before after → DoesNotAt (refused Memory)
       -- a word isn't what its place asks for, or numbers make no access
-      refused_word : (names : List Named) (fault : FaultLine) → AreNamesAt traces path names
+      refused_word : (names : List Named) (fault : FaultLine) → AreNamesAt paths.traces path names
           → asked_of names found ≡ Err fault → Keeps before after → DoesNotAt (Refused fault)
       -- it asks for something of a script that gets no answer
       undone : (command : Command) (naming : Option Naming) (failure : Failure) → AsksFor command naming
-          → Undone scripts traces folders command before after naming failure → DoesNotAt failure
+          → Undone paths command before after naming failure → DoesNotAt failure
 
   -- that was done, with names where the words ask for some
-  pub record Does (made : Inputs) (outcome : Outcome) : Type 0 where
+  pub record Does (made : Paths) (outcome : Outcome) : Type 0 where
     pub path : Option Text
     pub at : names_path_in found ≡ Ok path
     pub done : DoesAt path made outcome
@@ -120,13 +120,13 @@ module _ (found : Option (Text × List Row)) (scripts traces : Inputs) (folders 
         → DoesNot failure
 
 -- what the words ask for was written: help or the version, or the answer to a command
-pub data Answers (words : List Text) (scripts traces : Inputs) (folders : Folders) (before after : Option (List ℕ))
-    (made : Inputs) : Outcome → Type 0 where
-  tells : (text : List ℕ) → MayAskForText words → Appends before after text → made ≡ scripts
-      → Answers words scripts traces folders before after made Told
+pub data Answers (words : List Text) (paths : Paths) (before after : Option (List ℕ)) (made : Paths)
+    : Outcome → Type 0 where
+  tells : (text : List ℕ) → MayAskForText words → Appends before after text → made ≡ paths
+      → Answers words paths before after made Told
   does : (outcome : Outcome) → fault_of pmp_app words ≡ []
-      → Does (subcommand_of pmp_app words) scripts traces folders before after made outcome
-      → Answers words scripts traces folders before after made outcome
+      → Does (subcommand_of pmp_app words) paths before after made outcome
+      → Answers words paths before after made outcome
 
 -- why a text of help, or the version, isn't written wholly
 pub data TextFails (before after : Option (List ℕ)) : Failure → Type 0 where
@@ -134,17 +134,17 @@ pub data TextFails (before after : Option (List ℕ)) : Failure → Type 0 where
   no_output : (text : List ℕ) → AppendsBeginning before after text → TextFails before after (refused Output)
 
 -- why words get no answer
-pub data Fails (words : List Text) (scripts traces : Inputs) (folders : Folders)
+pub data Fails (words : List Text) (paths : Paths)
     (before after : Option (List ℕ)) : Failure → Type 0 where
   -- clap refuses them
   refused_words : (error : Error) → IsRefusedCommandLine words error → Keeps before after
-      → Fails words scripts traces folders before after (Words error)
+      → Fails words paths before after (Words error)
   -- there is no memory for what clap makes of them
-  no_memory : Keeps before after → Fails words scripts traces folders before after (refused Memory)
+  no_memory : Keeps before after → Fails words paths before after (refused Memory)
   -- they ask for help or the version, which isn't written wholly
   no_text : (failure : Failure) → MayAskForText words → TextFails before after failure
-      → Fails words scripts traces folders before after failure
+      → Fails words paths before after failure
   -- clap takes them, and what it finds in them isn't done
   does_not : (failure : Failure) → fault_of pmp_app words ≡ []
-      → DoesNot (subcommand_of pmp_app words) scripts traces folders before after failure
-      → Fails words scripts traces folders before after failure
+      → DoesNot (subcommand_of pmp_app words) paths before after failure
+      → Fails words paths before after failure

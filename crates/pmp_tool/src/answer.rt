@@ -1,12 +1,13 @@
 //! The program's answers to commands.
 
 ghost use Rattle.std.specs.Prelude.{◌≡◌, IfOk, IfErr, List, ℕ, Option};
-ghost use Rattle.pmp_tool.specs.Inputs.{AreBytesOf, Inputs};
+ghost use Rattle.pmp_tool.specs.Inputs.{AreBytesOf, Paths};
 ghost use Rattle.pmp_audit.specs.Answers.{IsWritten};
 ghost use Rattle.pmp_tool.specs.Requests.{ImportFails, IsGiven, IsUnread, RequestFails, RequestSays, has_names};
 ghost use Rattle.pmp_tool.specs.Requests.{name_allowed, old_side};
 ghost use Rattle.pmp_tool.specs.CommandAnswers.{CommandAnswers, CommandFails, IsScriptOf};
-ghost use Rattle.pmp_tool.specs.NumberedInputs.{traces_for};
+ghost use Rattle.pmp_tool.specs.NumberedInputs.{paths_for};
+ghost use Rattle.pmp_tool.specs.declared.naming.Naming.{Naming};
 ghost use Rattle.pmp_tool.specs.declared.request.Request.TheVariants as request;
 
 use crate::argument::Argument;
@@ -42,14 +43,11 @@ pub fn answer<R: Threads + Wait + Sync, I: Inputs, O: Write>(
     inputs: &mut I,
     out: &mut O,
 ) -> Result<Outcome, Failure>
-    ensures ok { IfOk result (CommandAnswers (I.scripts inputs.old)
-        (traces_for naming.entry (I.traces inputs.old)) command.entry
+    ensures ok { IfOk result (CommandAnswers (paths_for naming.entry (I.paths inputs.old)) command.entry
         (O.contents out.old) (O.contents out.new)) }
-    ensures err { IfErr result (CommandFails (I.scripts inputs.old)
-        (traces_for naming.entry (I.traces inputs.old)) command.entry
+    ensures err { IfErr result (CommandFails (paths_for naming.entry (I.paths inputs.old)) command.entry
         (O.contents out.old) (O.contents out.new)) }
-    ensures scripts { I.scripts inputs.new ≡ I.scripts inputs.old }
-    ensures traces { I.traces inputs.new ≡ I.traces inputs.old }
+    ensures paths { I.paths inputs.new ≡ I.paths inputs.old }
 {
     let script = script_of(alloc, inputs, command)?;
     answer_request(rt, alloc, &script, command.request, naming, inputs, out)
@@ -65,13 +63,11 @@ fn answer_request<R: Threads + Wait + Sync, I: Inputs, O: Write>(
     inputs: &mut I,
     out: &mut O,
 ) -> Result<Outcome, Failure>
-    ensures ok { IfOk result (IsWritten (RequestSays (I.scripts inputs.old)
-        (traces_for naming.entry (I.traces inputs.old)) script.now
+    ensures ok { IfOk result (IsWritten (RequestSays (paths_for naming.entry (I.paths inputs.old)) script.now
         request.entry) (O.contents out.old) (O.contents out.new)) }
-    ensures err { IfErr result (RequestFails (O.contents out.old) (O.contents out.new) (I.scripts inputs.old)
-        (traces_for naming.entry (I.traces inputs.old)) script.now request.entry) }
-    ensures scripts { I.scripts inputs.new ≡ I.scripts inputs.old }
-    ensures traces { I.traces inputs.new ≡ I.traces inputs.old }
+    ensures err { IfErr result (RequestFails (O.contents out.old) (O.contents out.new)
+        (paths_for naming.entry (I.paths inputs.old)) script.now request.entry) }
+    ensures paths { I.paths inputs.new ≡ I.paths inputs.old }
 {
     match request {
         Request::Check(asked) => answer_check(alloc, script, asked, out),
@@ -118,10 +114,10 @@ fn answer_check<O: Write>(
     asked: Check,
     out: &mut O,
 ) -> Result<Outcome, Failure>
-    ensures ok { (scripts traces : Inputs) → IfOk result (IsWritten (RequestSays scripts traces script.now
-        (request.Check asked)) (O.contents out.old) (O.contents out.new)) }
-    ensures err { (scripts traces : Inputs) → IfErr result (RequestFails (O.contents out.old) (O.contents out.new)
-        scripts traces script.now (request.Check asked)) }
+    ensures ok { (paths : Paths) → IfOk result (IsWritten (RequestSays paths script.now (request.Check asked))
+        (O.contents out.old) (O.contents out.new)) }
+    ensures err { (paths : Paths) → IfErr result (RequestFails (O.contents out.old) (O.contents out.new) paths
+        script.now (request.Check asked)) }
 {
     allow_name(script, Argument::After, asked.after)?;
     let decision = check(alloc, script, &asked.access, asked.after, out)?;
@@ -135,10 +131,10 @@ fn answer_why<O: Write>(
     asked: Why,
     out: &mut O,
 ) -> Result<Outcome, Failure>
-    ensures ok { (scripts traces : Inputs) → IfOk result (IsWritten (RequestSays scripts traces script.now
-        (request.Why asked)) (O.contents out.old) (O.contents out.new)) }
-    ensures err { (scripts traces : Inputs) → IfErr result (RequestFails (O.contents out.old) (O.contents out.new)
-        scripts traces script.now (request.Why asked)) }
+    ensures ok { (paths : Paths) → IfOk result (IsWritten (RequestSays paths script.now (request.Why asked))
+        (O.contents out.old) (O.contents out.new)) }
+    ensures err { (paths : Paths) → IfErr result (RequestFails (O.contents out.old) (O.contents out.new) paths
+        script.now (request.Why asked)) }
 {
     allow_name(script, Argument::After, asked.after)?;
     let decision = explain(alloc, script, &asked.access, asked.after, out)?;
@@ -152,10 +148,10 @@ fn answer_lint<O: Write>(
     accepted: Option<Accepted>,
     out: &mut O,
 ) -> Result<Outcome, Failure>
-    ensures ok { (scripts traces : Inputs) → IfOk result (IsWritten (RequestSays scripts traces script.now
-        (request.Lint accepted)) (O.contents out.old) (O.contents out.new)) }
-    ensures err { (scripts traces : Inputs) → IfErr result (RequestFails (O.contents out.old) (O.contents out.new)
-        scripts traces script.now (request.Lint accepted)) }
+    ensures ok { (paths : Paths) → IfOk result (IsWritten (RequestSays paths script.now (request.Lint accepted))
+        (O.contents out.old) (O.contents out.new)) }
+    ensures err { (paths : Paths) → IfErr result (RequestFails (O.contents out.old) (O.contents out.new) paths
+        script.now (request.Lint accepted)) }
 {
     let told = match accepted {
         Some(finding) => lint(alloc, script, &[finding], out)?,
@@ -172,10 +168,10 @@ fn answer_show<O: Write>(
     after: Option<When>,
     out: &mut O,
 ) -> Result<Outcome, Failure>
-    ensures ok { (scripts traces : Inputs) → IfOk result (IsWritten (RequestSays scripts traces script.now
-        (request.Show view after)) (O.contents out.old) (O.contents out.new)) }
-    ensures err { (scripts traces : Inputs) → IfErr result (RequestFails (O.contents out.old) (O.contents out.new)
-        scripts traces script.now (request.Show view after)) }
+    ensures ok { (paths : Paths) → IfOk result (IsWritten (RequestSays paths script.now (request.Show view after))
+        (O.contents out.old) (O.contents out.new)) }
+    ensures err { (paths : Paths) → IfErr result (RequestFails (O.contents out.old) (O.contents out.new) paths
+        script.now (request.Show view after)) }
 {
     allow_name(script, Argument::After, after)?;
     show(alloc, view, script, after, out)?;
@@ -192,13 +188,11 @@ fn answer_audit<R: Threads + Wait + Sync, I: Inputs, O: Write>(
     inputs: &mut I,
     out: &mut O,
 ) -> Result<Outcome, Failure>
-    ensures ok { IfOk result (IsWritten (RequestSays (I.scripts inputs.old)
-        (traces_for naming.entry (I.traces inputs.old)) script.now
+    ensures ok { IfOk result (IsWritten (RequestSays (paths_for naming.entry (I.paths inputs.old)) script.now
         (request.Audit asked.entry)) (O.contents out.old) (O.contents out.new)) }
-    ensures err { IfErr result (RequestFails (O.contents out.old) (O.contents out.new) (I.scripts inputs.old)
-        (traces_for naming.entry (I.traces inputs.old)) script.now (request.Audit asked.entry)) }
-    ensures scripts { I.scripts inputs.new ≡ I.scripts inputs.old }
-    ensures traces { I.traces inputs.new ≡ I.traces inputs.old }
+    ensures err { IfErr result (RequestFails (O.contents out.old) (O.contents out.new)
+        (paths_for naming.entry (I.paths inputs.old)) script.now (request.Audit asked.entry)) }
+    ensures paths { I.paths inputs.new ≡ I.paths inputs.old }
 {
     let trace = read_trace(alloc, naming, inputs, asked.trace)?;
     let summary = match asked.checkers {
@@ -218,13 +212,11 @@ fn answer_long_audit<R: Threads + Wait + Sync, I: Inputs, O: Write>(
     inputs: &mut I,
     out: &mut O,
 ) -> Result<Outcome, Failure>
-    ensures ok { IfOk result (IsWritten (RequestSays (I.scripts inputs.old)
-        (traces_for naming.entry (I.traces inputs.old)) script.now
+    ensures ok { IfOk result (IsWritten (RequestSays (paths_for naming.entry (I.paths inputs.old)) script.now
         (request.LongAudit asked.entry)) (O.contents out.old) (O.contents out.new)) }
-    ensures err { IfErr result (RequestFails (O.contents out.old) (O.contents out.new) (I.scripts inputs.old)
-        (traces_for naming.entry (I.traces inputs.old)) script.now (request.LongAudit asked.entry)) }
-    ensures scripts { I.scripts inputs.new ≡ I.scripts inputs.old }
-    ensures traces { I.traces inputs.new ≡ I.traces inputs.old }
+    ensures err { IfErr result (RequestFails (O.contents out.old) (O.contents out.new)
+        (paths_for naming.entry (I.paths inputs.old)) script.now (request.LongAudit asked.entry)) }
+    ensures paths { I.paths inputs.new ≡ I.paths inputs.old }
 {
     let mut rows = open_trace(naming, inputs, asked.trace)?;
     let jobs = asked.jobs.unwrap_or_else(|| processors(rt)) as usize;
@@ -242,13 +234,11 @@ fn answer_policy<I: Inputs, O: Write>(
     inputs: &mut I,
     out: &mut O,
 ) -> Result<Outcome, Failure>
-    ensures ok { IfOk result (IsWritten (RequestSays (I.scripts inputs.old)
-        (traces_for naming.entry (I.traces inputs.old)) script.now
+    ensures ok { IfOk result (IsWritten (RequestSays (paths_for naming.entry (I.paths inputs.old)) script.now
         (request.Policy path.entry pace)) (O.contents out.old) (O.contents out.new)) }
-    ensures err { IfErr result (RequestFails (O.contents out.old) (O.contents out.new) (I.scripts inputs.old)
-        (traces_for naming.entry (I.traces inputs.old)) script.now (request.Policy path.entry pace)) }
-    ensures scripts { I.scripts inputs.new ≡ I.scripts inputs.old }
-    ensures traces { I.traces inputs.new ≡ I.traces inputs.old }
+    ensures err { IfErr result (RequestFails (O.contents out.old) (O.contents out.new)
+        (paths_for naming.entry (I.paths inputs.old)) script.now (request.Policy path.entry pace)) }
+    ensures paths { I.paths inputs.new ≡ I.paths inputs.old }
 {
     let policy = read_trace(alloc, naming, inputs, path)?;
     Ok(Outcome::Judged(check_policy(alloc, pace, script, &policy, out)?))
@@ -262,12 +252,11 @@ fn answer_diff<I: Inputs, O: Write>(
     inputs: &mut I,
     out: &mut O,
 ) -> Result<Outcome, Failure>
-    ensures ok { (traces : Inputs) → IfOk result (IsWritten (RequestSays (I.scripts inputs.old) traces script.now
-        (request.Diff asked.entry)) (O.contents out.old) (O.contents out.new)) }
-    ensures err { (traces : Inputs) → IfErr result (RequestFails (O.contents out.old) (O.contents out.new)
-        (I.scripts inputs.old) traces script.now (request.Diff asked.entry)) }
-    ensures scripts { I.scripts inputs.new ≡ I.scripts inputs.old }
-    ensures traces { I.traces inputs.new ≡ I.traces inputs.old }
+    ensures ok { (naming : Option Naming) → IfOk result (IsWritten (RequestSays (paths_for naming (I.paths inputs.old))
+        script.now (request.Diff asked.entry)) (O.contents out.old) (O.contents out.new)) }
+    ensures err { (naming : Option Naming) → IfErr result (RequestFails (O.contents out.old) (O.contents out.new)
+        (paths_for naming (I.paths inputs.old)) script.now (request.Diff asked.entry)) }
+    ensures paths { I.paths inputs.new ≡ I.paths inputs.old }
 {
     let (old_after, new_after) = (asked.old_after, asked.new_after);
     allow_name(script, Argument::OldAfter, old_after)?;
@@ -293,13 +282,11 @@ fn answer_import<I: Inputs, O: Write>(
     inputs: &mut I,
     out: &mut O,
 ) -> Result<Outcome, Failure>
-    ensures ok { (script : List ℕ) → IfOk result (IsWritten (RequestSays (I.scripts inputs.old)
-        (traces_for naming.entry (I.traces inputs.old))
+    ensures ok { (script : List ℕ) → IfOk result (IsWritten (RequestSays (paths_for naming.entry (I.paths inputs.old))
         script (request.Import asked.entry)) (O.contents out.old) (O.contents out.new)) }
     ensures err { (script : List ℕ) → IfErr result (RequestFails (O.contents out.old) (O.contents out.new)
-        (I.scripts inputs.old) (traces_for naming.entry (I.traces inputs.old)) script (request.Import asked.entry)) }
-    ensures scripts { I.scripts inputs.new ≡ I.scripts inputs.old }
-    ensures traces { I.traces inputs.new ≡ I.traces inputs.old }
+        (paths_for naming.entry (I.paths inputs.old)) script (request.Import asked.entry)) }
+    ensures paths { I.paths inputs.new ≡ I.paths inputs.old }
 {
     let (given, note) = given_of(alloc, asked, naming, inputs)?;
     let mut log = open_trace(naming, inputs, asked.log)?;
@@ -314,13 +301,11 @@ fn given_of<I: Inputs>(
     naming: Option<Naming<'_>>,
     inputs: &mut I,
 ) -> Result<(Given, Note), Failure>
-    ensures ok { IfOk result (λ both. IsGiven (traces_for naming.entry (I.traces inputs.old) asked.entry.log.now)
-        asked.entry both.0 both.1) }
+    ensures ok { IfOk result (λ both. IsGiven ((paths_for naming.entry (I.paths inputs.old)).traces
+        asked.entry.log.now) asked.entry both.0 both.1) }
     ensures err { (out : Option (List ℕ)) → IfErr result (ImportFails
-        (traces_for naming.entry (I.traces inputs.old) asked.entry.log.now)
-        asked.entry out out) }
-    ensures scripts { I.scripts inputs.new ≡ I.scripts inputs.old }
-    ensures traces { I.traces inputs.new ≡ I.traces inputs.old }
+        ((paths_for naming.entry (I.paths inputs.old)).traces asked.entry.log.now) asked.entry out out) }
+    ensures paths { I.paths inputs.new ≡ I.paths inputs.old }
 {
     if asked.log == "stdin" {
         let given = asked.options.alone(asked.format);
@@ -338,13 +323,11 @@ fn script_of<I: Inputs>(
     inputs: &mut I,
     command: Command<'_>,
 ) -> Result<Vec<u8>, Failure>
-    ensures read { IfOk result (λ bytes. IsScriptOf command.entry.request (I.scripts inputs.old
-        command.entry.script.now)
-        bytes.items) }
-    ensures unread { IfErr result (IsUnread (I.scripts inputs.old command.entry.script.now)
+    ensures read { IfOk result (λ bytes. IsScriptOf command.entry.request ((I.paths inputs.old).scripts
+        command.entry.script.now) bytes.items) }
+    ensures unread { IfErr result (IsUnread ((I.paths inputs.old).scripts command.entry.script.now)
         (old_side command.entry.request)) }
-    ensures scripts { I.scripts inputs.new ≡ I.scripts inputs.old }
-    ensures traces { I.traces inputs.new ≡ I.traces inputs.old }
+    ensures paths { I.paths inputs.new ≡ I.paths inputs.old }
 {
     if let Request::Import(_) = command.request {
         return Ok(Vec::new(alloc));
@@ -364,10 +347,9 @@ pub fn old_side(request: Request<'_>) -> Option<Side>
 
 /// Returns the bytes of the script at the path, which is on this side if there are two.
 fn script_at<I: Inputs>(inputs: &mut I, path: &str, side: Option<Side>) -> Result<Vec<u8>, Failure>
-    ensures read { IfOk result (λ bytes. AreBytesOf (I.scripts inputs.old path.now) bytes.items) }
-    ensures unread { IfErr result (IsUnread (I.scripts inputs.old path.now) side) }
-    ensures scripts { I.scripts inputs.new ≡ I.scripts inputs.old }
-    ensures traces { I.traces inputs.new ≡ I.traces inputs.old }
+    ensures read { IfOk result (λ bytes. AreBytesOf ((I.paths inputs.old).scripts path.now) bytes.items) }
+    ensures unread { IfErr result (IsUnread ((I.paths inputs.old).scripts path.now) side) }
+    ensures paths { I.paths inputs.new ≡ I.paths inputs.old }
 {
     inputs
         .script(path)

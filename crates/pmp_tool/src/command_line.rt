@@ -21,13 +21,14 @@ pub fn parse_words<'a>(alloc: Global, words: &'a [String]) -> Result<ArgMatches<
 /// A command, if there was memory for all its parts.
 type Built<'a> = Result<Command<'a>, AllocError>;
 
-/// Returns the program, with its commands and a help topic for each format.
+/// Returns the program, with its commands and its help topics.
 fn pmp<'a>(alloc: Global) -> Built<'a>
     ensures { IsBuilt result pmp_app }
 {
     commands(alloc)?
         .subcommand(topic(alloc, "script", topics::SCRIPT))?
         .subcommand(topic(alloc, "trace", topics::TRACE))?
+        .subcommand(topic(alloc, "names", topics::NAMES))?
         .subcommand(topic(alloc, "rows", topics::ROWS))
 }
 
@@ -68,7 +69,8 @@ fn top<'a>(alloc: Global) -> Built<'a>
 fn command<'a>(alloc: Global, name: CommandName) -> Built<'a>
     ensures { IsBuilt result (command_app name) }
 {
-    let mut command = named(alloc, name.word(), name.about(), name.more());
+    let (about, more) = name.texts();
+    let mut command = named(alloc, name.word(), about, more);
     let arguments = name.arguments();
     for argument in arguments {
         command = command.arg(argument.arg(alloc))?;

@@ -66,43 +66,23 @@ impl CommandName {
         }
     }
 
-    /// Returns its help text of one line.
-    pub fn about<'a>(self) -> &'a str {
+    /// Returns its help text of one line, and the one after its arguments.
+    pub fn texts<'a>(self) -> (&'a str, &'a str) {
         match self {
-            CommandName::Check => help::CHECK,
-            CommandName::Why => help::WHY,
-            CommandName::Audit => help::AUDIT,
-            CommandName::Policy => help::POLICY,
-            CommandName::Dump => help::DUMP,
-            CommandName::Map => help::MAP,
-            CommandName::Picture => help::PICTURE,
-            CommandName::Entries => help::ENTRIES,
-            CommandName::Writes => help::WRITES,
-            CommandName::Lint => help::LINT,
-            CommandName::Diff => help::DIFF,
-            CommandName::Harts => help::HARTS,
-            CommandName::Import => help::IMPORT,
-            CommandName::Plan => help::PLAN,
-        }
-    }
-
-    /// Returns its help text after the arguments.
-    pub fn more<'a>(self) -> &'a str {
-        match self {
-            CommandName::Check => topics::MORE_OF_CHECK,
-            CommandName::Why => topics::MORE_OF_WHY,
-            CommandName::Audit => topics::MORE_OF_AUDIT,
-            CommandName::Policy => topics::MORE_OF_POLICY,
-            CommandName::Dump => topics::MORE_OF_DUMP,
-            CommandName::Map => topics::MORE_OF_MAP,
-            CommandName::Picture => topics::MORE_OF_PICTURE,
-            CommandName::Entries => topics::MORE_OF_ENTRIES,
-            CommandName::Writes => topics::MORE_OF_WRITES,
-            CommandName::Lint => topics::MORE_OF_LINT,
-            CommandName::Diff => topics::MORE_OF_DIFF,
-            CommandName::Harts => topics::MORE_OF_HARTS,
-            CommandName::Import => topics::MORE_OF_IMPORT,
-            CommandName::Plan => topics::MORE_OF_PLAN,
+            CommandName::Check => (help::CHECK, topics::MORE_OF_CHECK),
+            CommandName::Why => (help::WHY, topics::MORE_OF_WHY),
+            CommandName::Audit => (help::AUDIT, topics::MORE_OF_AUDIT),
+            CommandName::Policy => (help::POLICY, topics::MORE_OF_POLICY),
+            CommandName::Dump => (help::DUMP, topics::MORE_OF_DUMP),
+            CommandName::Map => (help::MAP, topics::MORE_OF_MAP),
+            CommandName::Picture => (help::PICTURE, topics::MORE_OF_PICTURE),
+            CommandName::Entries => (help::ENTRIES, topics::MORE_OF_ENTRIES),
+            CommandName::Writes => (help::WRITES, topics::MORE_OF_WRITES),
+            CommandName::Lint => (help::LINT, topics::MORE_OF_LINT),
+            CommandName::Diff => (help::DIFF, topics::MORE_OF_DIFF),
+            CommandName::Harts => (help::HARTS, topics::MORE_OF_HARTS),
+            CommandName::Import => (help::IMPORT, topics::MORE_OF_IMPORT),
+            CommandName::Plan => (help::PLAN, topics::MORE_OF_PLAN),
         }
     }
 

@@ -6,7 +6,7 @@ ghost use Rattle.pmp_tool.specs.Commands.{task_of};
 ghost use Rattle.pmp_tool.specs.HartSteps.{FailsOn, IsAnsweredOn, with_new};
 ghost use Rattle.pmp_tool.specs.Failures.{of_hart};
 ghost use Rattle.pmp_tool.specs.NamedAnswers.{FailsApart, OneAnswer, OneFails};
-ghost use Rattle.pmp_tool.specs.NumberedInputs.{traces_for};
+ghost use Rattle.pmp_tool.specs.NumberedInputs.{paths_for};
 ghost use Rattle.pmp_tool.specs.declared.failure.Failure.{Failure};
 ghost use Rattle.pmp_tool.specs.Harts.{HartsAnswer, HartsFail, new_script, path_on};
 
@@ -73,13 +73,10 @@ pub fn answer_apart<R: Threads + Wait + Sync, I: Inputs>(
     naming: Option<Naming<'_>>,
     inputs: &mut I,
 ) -> Result<(Outcome, Vec<u8>), Failure>
-    ensures ok { IfOk result (λ both. CommandAnswers (I.scripts inputs.old)
-        (traces_for naming.entry (I.traces inputs.old)) command.entry
+    ensures ok { IfOk result (λ both. CommandAnswers (paths_for naming.entry (I.paths inputs.old)) command.entry
         (Some []) (Some both.1.items) both.0) }
-    ensures err { IfErr result (FailsApart (I.scripts inputs.old)
-        (traces_for naming.entry (I.traces inputs.old)) command.entry) }
-    ensures scripts { I.scripts inputs.new ≡ I.scripts inputs.old }
-    ensures traces { I.traces inputs.new ≡ I.traces inputs.old }
+    ensures err { IfErr result (FailsApart (paths_for naming.entry (I.paths inputs.old)) command.entry) }
+    ensures paths { I.paths inputs.new ≡ I.paths inputs.old }
 {
     let mut rows = Vec::new(alloc);
     match answer(rt, alloc, command, naming, inputs, &mut rows) {
@@ -97,13 +94,11 @@ pub fn answer_one<R: Threads + Wait + Sync, I: Inputs, O: Write>(
     inputs: &mut I,
     out: &mut O,
 ) -> Result<Outcome, Failure>
-    ensures ok { IfOk result (OneAnswer (I.scripts inputs.old)
-        (traces_for naming.entry (I.traces inputs.old)) command.entry
+    ensures ok { IfOk result (OneAnswer (paths_for naming.entry (I.paths inputs.old)) command.entry
         (O.contents out.old) (O.contents out.new) naming.entry) }
-    ensures err { IfErr result (OneFails (I.scripts inputs.old)
-        (traces_for naming.entry (I.traces inputs.old)) command.entry
+    ensures err { IfErr result (OneFails (paths_for naming.entry (I.paths inputs.old)) command.entry
         (O.contents out.old) (O.contents out.new) naming.entry) }
-    ensures scripts { I.scripts inputs.new ≡ I.scripts inputs.old }
+    ensures paths { I.paths inputs.new ≡ I.paths inputs.old }
 {
     match naming {
         None => answer(rt, alloc, command, None, inputs, out),
@@ -120,13 +115,11 @@ fn answer_named<R: Threads + Wait + Sync, I: Inputs, O: Write>(
     inputs: &mut I,
     out: &mut O,
 ) -> Result<Outcome, Failure>
-    ensures ok { IfOk result (OneAnswer (I.scripts inputs.old)
-        (traces_for (Some naming.entry) (I.traces inputs.old)) command.entry
+    ensures ok { IfOk result (OneAnswer (paths_for (Some naming.entry) (I.paths inputs.old)) command.entry
         (O.contents out.old) (O.contents out.new) (Some naming.entry)) }
-    ensures err { IfErr result (OneFails (I.scripts inputs.old)
-        (traces_for (Some naming.entry) (I.traces inputs.old)) command.entry
+    ensures err { IfErr result (OneFails (paths_for (Some naming.entry) (I.paths inputs.old)) command.entry
         (O.contents out.old) (O.contents out.new) (Some naming.entry)) }
-    ensures scripts { I.scripts inputs.new ≡ I.scripts inputs.old }
+    ensures paths { I.paths inputs.new ≡ I.paths inputs.old }
 {
     let (outcome, rows) = answer_apart(rt, alloc, command, Some(naming), inputs)?;
     let named = with_names(alloc, Some(naming), rows)?;
@@ -143,14 +136,11 @@ fn answer_alone<R: Threads + Wait + Sync, I: Inputs>(
     hart: &HartName,
     inputs: &mut I,
 ) -> Result<(Outcome, Vec<u8>), Failure>
-    ensures ok { IfOk result (λ both. CommandAnswers (I.scripts inputs.old)
-        (traces_for naming.entry (I.traces inputs.old)) command.entry
+    ensures ok { IfOk result (λ both. CommandAnswers (paths_for naming.entry (I.paths inputs.old)) command.entry
         (Some []) (Some both.1.items) both.0) }
-    ensures err { IfErr result (λ failure. (alone : Failure) × FailsApart (I.scripts inputs.old)
-        (traces_for naming.entry (I.traces inputs.old))
+    ensures err { IfErr result (λ failure. (alone : Failure) × FailsApart (paths_for naming.entry (I.paths inputs.old))
         command.entry alone × (failure ≡ of_hart hart.now.name alone)) }
-    ensures scripts { I.scripts inputs.new ≡ I.scripts inputs.old }
-    ensures traces { I.traces inputs.new ≡ I.traces inputs.old }
+    ensures paths { I.paths inputs.new ≡ I.paths inputs.old }
 {
     inputs.forget();
     match answer_apart(rt, alloc, command, naming, inputs) {
@@ -170,13 +160,11 @@ fn answer_on<R: Threads + Wait + Sync, I: Inputs>(
     inputs: &mut I,
     rows: &mut Vec<u8>,
 ) -> Result<Outcome, Failure>
-    ensures ok { IfOk result (IsAnsweredOn (I.scripts inputs.old)
-        (traces_for naming.entry (I.traces inputs.old)) command.entry naming.entry harts.now
-        hart.now.name.bytes rows.old.items rows.new.items) }
-    ensures err { IfErr result (FailsOn (I.scripts inputs.old)
-        (traces_for naming.entry (I.traces inputs.old)) command.entry harts.now hart.now) }
-    ensures scripts { I.scripts inputs.new ≡ I.scripts inputs.old }
-    ensures traces { I.traces inputs.new ≡ I.traces inputs.old }
+    ensures ok { IfOk result (IsAnsweredOn (paths_for naming.entry (I.paths inputs.old)) command.entry naming.entry
+        harts.now hart.now.name.bytes rows.old.items rows.new.items) }
+    ensures err { IfErr result (FailsOn (paths_for naming.entry (I.paths inputs.old)) command.entry harts.now
+        hart.now) }
+    ensures paths { I.paths inputs.new ≡ I.paths inputs.old }
 {
     let name = hart.name.as_str();
     let script = path_on(alloc, harts.old, command.script, name)?;
@@ -201,13 +189,11 @@ pub fn answer_harts<R: Threads + Wait + Sync, I: Inputs, O: Write>(
     inputs: &mut I,
     out: &mut O,
 ) -> Result<Outcome, Failure>
-    ensures ok { IfOk result (HartsAnswer (I.scripts inputs.old)
-        (traces_for naming.entry (I.traces inputs.old)) command.entry naming.entry harts.now
-        (O.contents out.old) (O.contents out.new)) }
-    ensures err { IfErr result (HartsFail (I.scripts inputs.old)
-        (traces_for naming.entry (I.traces inputs.old)) command.entry naming.entry harts.now
-        (O.contents out.old) (O.contents out.new)) }
-    ensures scripts { I.scripts inputs.new ≡ I.scripts inputs.old }
+    ensures ok { IfOk result (HartsAnswer (paths_for naming.entry (I.paths inputs.old)) command.entry naming.entry
+        harts.now (O.contents out.old) (O.contents out.new)) }
+    ensures err { IfErr result (HartsFail (paths_for naming.entry (I.paths inputs.old)) command.entry naming.entry
+        harts.now (O.contents out.old) (O.contents out.new)) }
+    ensures paths { I.paths inputs.new ≡ I.paths inputs.old }
 {
     let mut rows = Vec::new(alloc);
     let mut outcome = Outcome::Listed;

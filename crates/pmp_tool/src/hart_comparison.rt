@@ -1,9 +1,8 @@
 //! The harts of a folder compared with its first one.
 
 ghost use Rattle.std.specs.Prelude.{◌≡◌, IfErr, IfOk};
-ghost use Rattle.pmp_tool.specs.HartComparisons.{CantCompare, FolderAnswer, FolderFails, HartsCompare, compares_harts};
-ghost use Rattle.pmp_tool.specs.HartComparisons.{compares_locks};
-ghost use Rattle.pmp_tool.specs.NumberedInputs.{traces_for};
+ghost use Rattle.pmp_tool.specs.HartComparisons.{CantCompare, FolderAnswer, FolderFails, HartsCompare, comparison};
+ghost use Rattle.pmp_tool.specs.NumberedInputs.{paths_for};
 
 use crate::command::Command;
 use crate::failure::Failure;
@@ -20,18 +19,14 @@ use std::io::Write;
 use std::sync::Wait;
 use std::thread::Threads;
 
-/// Whether the harts of a folder are compared with each other.
-fn compares_harts(request: Request<'_>) -> bool
-    ensures { result ≡ compares_harts request.entry }
+/// Whether the harts of a folder are compared with each other, and whether their locks are too.
+fn comparison(request: Request<'_>) -> Option<bool>
+    ensures { result ≡ comparison request.entry }
 {
-    matches!(request, Request::Harts(_))
-}
-
-/// Whether their locks are compared too.
-fn compares_locks(request: Request<'_>) -> bool
-    ensures { result ≡ compares_locks request.entry }
-{
-    matches!(request, Request::Harts(true))
+    match request {
+        Request::Harts(has_locks) => Some(has_locks),
+        _ => None,
+    }
 }
 
 /// Answers a command about the harts of a folder.
@@ -44,18 +39,15 @@ pub fn answer_folder<R: Threads + Wait + Sync, I: Inputs, O: Write>(
     inputs: &mut I,
     out: &mut O,
 ) -> Result<Outcome, Failure>
-    ensures ok { IfOk result (FolderAnswer (I.scripts inputs.old)
-        (traces_for naming.entry (I.traces inputs.old)) command.entry naming.entry harts
-        (O.contents out.old) (O.contents out.new)) }
-    ensures err { IfErr result (FolderFails (I.scripts inputs.old)
-        (traces_for naming.entry (I.traces inputs.old)) command.entry naming.entry harts
-        (O.contents out.old) (O.contents out.new)) }
-    ensures scripts { I.scripts inputs.new ≡ I.scripts inputs.old }
+    ensures ok { IfOk result (FolderAnswer (paths_for naming.entry (I.paths inputs.old)) command.entry naming.entry
+        harts (O.contents out.old) (O.contents out.new)) }
+    ensures err { IfErr result (FolderFails (paths_for naming.entry (I.paths inputs.old)) command.entry naming.entry
+        harts (O.contents out.old) (O.contents out.new)) }
+    ensures paths { I.paths inputs.new ≡ I.paths inputs.old }
 {
-    if compares_harts(command.request) {
-        compare_harts(rt, alloc, command, naming, harts, inputs, out)
-    } else {
-        answer_harts(rt, alloc, command, naming, &harts, inputs, out)
+    match comparison(command.request) {
+        Some(has_locks) => compare_harts(rt, alloc, command, has_locks, naming, harts, inputs, out),
+        None => answer_harts(rt, alloc, command, naming, &harts, inputs, out),
     }
 }
 
@@ -64,18 +56,17 @@ fn compare_harts<R: Threads + Wait + Sync, I: Inputs, O: Write>(
     rt: &R,
     alloc: Global,
     command: Command<'_>,
+    has_locks: bool,
     naming: Option<Naming<'_>>,
     harts: Harts,
     inputs: &mut I,
     out: &mut O,
 ) -> Result<Outcome, Failure>
-    ensures ok { IfOk result (HartsCompare (I.scripts inputs.old)
-        (traces_for naming.entry (I.traces inputs.old)) command.entry naming.entry harts
-        (O.contents out.old) (O.contents out.new)) }
-    ensures err { IfErr result (CantCompare (I.scripts inputs.old)
-        (traces_for naming.entry (I.traces inputs.old)) command.entry naming.entry harts
-        (O.contents out.old) (O.contents out.new)) }
-    ensures scripts { I.scripts inputs.new ≡ I.scripts inputs.old }
+    ensures ok { IfOk result (HartsCompare (paths_for naming.entry (I.paths inputs.old)) command.entry naming.entry harts
+        (O.contents out.old) (O.contents out.new) has_locks) }
+    ensures err { IfErr result (CantCompare (paths_for naming.entry (I.paths inputs.old)) command.entry naming.entry harts
+        (O.contents out.old) (O.contents out.new) has_locks) }
+    ensures paths { I.paths inputs.new ≡ I.paths inputs.old }
 {
     let Some(first) = harts.names.first() else {
         return Err(Failure::from(Refusal::BadFolder));
@@ -89,7 +80,7 @@ fn compare_harts<R: Threads + Wait + Sync, I: Inputs, O: Write>(
             new_after: None,
             changes: AskedChanges {
                 only: None,
-                has_locks: compares_locks(command.request),
+                has_locks,
             },
         }),
     };

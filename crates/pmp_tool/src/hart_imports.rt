@@ -35,10 +35,9 @@ fn survey_at<I: Inputs>(
     format: Format,
     inputs: &mut I,
 ) -> Result<Survey, Failure>
-    ensures ok { IfOk result (IsFound (I.traces inputs.old path.now) format) }
-    ensures err { IfErr result (IsUnfound (I.traces inputs.old path.now) format) }
-    ensures scripts { I.scripts inputs.new ≡ I.scripts inputs.old }
-    ensures traces { I.traces inputs.new ≡ I.traces inputs.old }
+    ensures ok { IfOk result (IsFound ((I.paths inputs.old).traces path.now) format) }
+    ensures err { IfErr result (IsUnfound ((I.paths inputs.old).traces path.now) format) }
+    ensures paths { I.paths inputs.new ≡ I.paths inputs.old }
 {
     let mut log = inputs.open_trace(path)?;
     Ok(survey_log(alloc, format, None, &mut log)?)
@@ -54,11 +53,10 @@ fn add_hart<R: Threads + Wait + Sync, I: Inputs>(
     inputs: &mut I,
     all: &mut Vec<HartScript>,
 ) -> Result<(), Failure>
-    ensures ok { OnOk result (AddsHart (I.scripts inputs.old) (I.traces inputs.old) command.entry import.entry hart
-        all.old.items all.new.items) }
-    ensures err { IfErr result (OneFails (I.scripts inputs.old) (I.traces inputs.old) command.entry import.entry) }
-    ensures scripts { I.scripts inputs.new ≡ I.scripts inputs.old }
-    ensures traces { I.traces inputs.new ≡ I.traces inputs.old }
+    ensures ok { OnOk result (AddsHart (I.paths inputs.old) command.entry import.entry hart all.old.items
+        all.new.items) }
+    ensures err { IfErr result (OneFails (I.paths inputs.old) command.entry import.entry) }
+    ensures paths { I.paths inputs.new ≡ I.paths inputs.old }
 {
     let options = Options {
         hart: Some(hart),
@@ -85,11 +83,10 @@ fn import_each<R: Threads + Wait + Sync, I: Inputs>(
     survey: &Survey,
     inputs: &mut I,
 ) -> Result<Vec<HartScript>, Failure>
-    ensures ok { IfOk result (λ all. AreOf (I.scripts inputs.old) (I.traces inputs.old) command.entry import.entry
-        (writers survey.now) all.items) }
-    ensures err { IfErr result (OneFails (I.scripts inputs.old) (I.traces inputs.old) command.entry import.entry) }
-    ensures scripts { I.scripts inputs.new ≡ I.scripts inputs.old }
-    ensures traces { I.traces inputs.new ≡ I.traces inputs.old }
+    ensures ok { IfOk result (λ all. AreOf (I.paths inputs.old) command.entry import.entry (writers survey.now)
+        all.items) }
+    ensures err { IfErr result (OneFails (I.paths inputs.old) command.entry import.entry) }
+    ensures paths { I.paths inputs.new ≡ I.paths inputs.old }
 {
     let mut all = Vec::new(alloc);
     let mut hart = 0;
@@ -113,9 +110,8 @@ pub fn import_harts<R: Threads + Wait + Sync, I: Inputs>(
     folder: &str,
     inputs: &mut I,
 ) -> Result<Outcome, Failure>
-    ensures ok { IfOk result (Makes (I.scripts inputs.old) (I.traces inputs.old) command.entry import.entry
-        folder.now (I.scripts inputs.new)) }
-    ensures err { IfErr result (CantMake (I.scripts inputs.old) (I.traces inputs.old) command.entry import.entry) }
+    ensures ok { IfOk result (Makes (I.paths inputs.old) command.entry import.entry folder.now (I.paths inputs.new)) }
+    ensures err { IfErr result (CantMake (I.paths inputs.old) command.entry import.entry) }
 {
     let survey = survey_at(alloc, import.log, import.format, inputs)?;
     let all = import_each(rt, alloc, command, import, &survey, inputs)?;

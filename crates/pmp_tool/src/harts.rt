@@ -76,12 +76,10 @@ fn listed<I: Inputs>(
     path: &str,
     side: Option<Side>,
 ) -> Result<Option<Vec<String>>, Failure>
-    ensures listed { IfOk result (λ found. IsFolder (I.folders inputs.old path.now)
-        (option_map (λ files. map string_bytes files.items) found)) }
+    ensures listed { IfOk result (λ found. IsFolder ((I.paths inputs.old).folders path.now) (option_map
+        (λ files. map string_bytes files.items) found)) }
     ensures unlisted { IfErr result (IsUnlisted side) }
-    ensures scripts { I.scripts inputs.new ≡ I.scripts inputs.old }
-    ensures traces { I.traces inputs.new ≡ I.traces inputs.old }
-    ensures folders { I.folders inputs.new ≡ I.folders inputs.old }
+    ensures paths { I.paths inputs.new ≡ I.paths inputs.old }
 {
     inputs
         .folder(path)
@@ -103,11 +101,9 @@ fn harts_at<I: Inputs>(
     path: &str,
     side: Option<Side>,
 ) -> Result<Option<Vec<HartName>>, Failure>
-    ensures found { IfOk result (λ harts. AreFoundAt (I.folders inputs.old path.now) (names_in harts)) }
-    ensures unfound { IfErr result (AreUnfoundAt (I.folders inputs.old path.now) side) }
-    ensures scripts { I.scripts inputs.new ≡ I.scripts inputs.old }
-    ensures traces { I.traces inputs.new ≡ I.traces inputs.old }
-    ensures folders { I.folders inputs.new ≡ I.folders inputs.old }
+    ensures found { IfOk result (λ harts. AreFoundAt ((I.paths inputs.old).folders path.now) (names_in harts)) }
+    ensures unfound { IfErr result (AreUnfoundAt ((I.paths inputs.old).folders path.now) side) }
+    ensures paths { I.paths inputs.new ≡ I.paths inputs.old }
 {
     let Some(files) = listed(inputs, path, side)? else {
         return Ok(None);
@@ -121,11 +117,10 @@ fn new_harts<I: Inputs>(
     inputs: &mut I,
     request: Request<'_>,
 ) -> Result<Option<Vec<HartName>>, Failure>
-    ensures found { IfOk result (λ harts. AreFoundNew (I.folders inputs.old) (new_script request.entry)
+    ensures found { IfOk result (λ harts. AreFoundNew (I.paths inputs.old).folders (new_script request.entry)
         (names_in harts)) }
-    ensures unfound { IfErr result (AreUnfoundNew (I.folders inputs.old) (new_script request.entry)) }
-    ensures scripts { I.scripts inputs.new ≡ I.scripts inputs.old }
-    ensures traces { I.traces inputs.new ≡ I.traces inputs.old }
+    ensures unfound { IfErr result (AreUnfoundNew (I.paths inputs.old).folders (new_script request.entry)) }
+    ensures paths { I.paths inputs.new ≡ I.paths inputs.old }
 {
     match new_script(request) {
         Some(path) => harts_at(alloc, inputs, path, Some(Side::New)),
@@ -176,10 +171,9 @@ impl Harts {
         command: Command<'_>,
         inputs: &mut I,
     ) -> Result<Option<Harts>, Failure>
-        ensures found { IfOk result (AreFound (I.folders inputs.old) command.entry) }
-        ensures unfound { IfErr result (AreUnfound (I.folders inputs.old) command.entry) }
-        ensures scripts { I.scripts inputs.new ≡ I.scripts inputs.old }
-        ensures traces { I.traces inputs.new ≡ I.traces inputs.old }
+        ensures found { IfOk result (AreFound (I.paths inputs.old).folders command.entry) }
+        ensures unfound { IfErr result (AreUnfound (I.paths inputs.old).folders command.entry) }
+        ensures paths { I.paths inputs.new ≡ I.paths inputs.old }
     {
         if !takes_folder(command.request) {
             return Ok(None);

@@ -140,8 +140,8 @@ pub const FOLDER: &str =
     hart0.pmp and so on";
 
 pub const NAMES: &str =
-    "Reads names of addresses from FILE, a line first,last,name and then a row for each: rows and bands of the output \
-    end with the names of their bytes, and START and addresses of rows may be names";
+    "Reads names of addresses from FILE (pmp help names): rows and bands of the output end with the names of their \
+    bytes, and START and addresses of rows may be names";
 
 pub const PLAN: &str =
     "Finds CSR writes for a plan: a script of version 3 that gives each byte the rights of the plan";

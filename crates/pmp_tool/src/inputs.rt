@@ -5,7 +5,7 @@ ghost use Rattle.pmp_text.specs.declared.input.TheConstants.{MAX_LIMIT};
 ghost use Rattle.pmp_text.specs.declared.script.reader.TheConstants.{MAX_HEADED_SCRIPT};
 ghost use Rattle.pmp_text.specs.declared.trace.reader.TheConstants.{MAX_TRACE};
 ghost use Rattle.pmp_tool.specs.HartScripts.{AreMade, CantBeMade};
-ghost use Rattle.pmp_tool.specs.Inputs.{AreBytesOf, CantBeOpened, CantBeRead, GivesBytesOf, IsFolder};
+ghost use Rattle.pmp_tool.specs.Inputs.{AreBytesOf, CantBeOpened, CantBeRead, GivesBytesOf, IsFolder, Paths, unknown};
 
 use crate::folder::fill_folder;
 use crate::hart_script::HartScript;
@@ -24,56 +24,43 @@ pub trait Inputs {
     /// The reader of the bytes of a trace, little by little.
     type Trace: Read + Drop;
 
-    /// The bytes of the script at a path, if they are known.
-    ghost scripts: { Self → List ℕ → Option (List ℕ) } = { λ _ _. None };
-
-    /// The bytes of the trace, the policy or the log at a path, if they are known.
-    ghost traces: { Self → List ℕ → Option (List ℕ) } = { λ _ _. None };
-
-    /// The names of the files of the folder at a path, or none if there is no folder, if that is known.
-    ghost folders: { Self → List ℕ → Option (Option (List (List ℕ))) } = { λ _ _. None };
+    /// What stands at each path, as far as that is known.
+    ghost paths: { Self → Paths } = { λ _. unknown };
 
     /// Returns the bytes of the script at this path.
     fn script(&mut self, path: &str) -> Result<Vec<u8>, InputFault>
-        ensures read { IfOk result (λ bytes. AreBytesOf (scripts self.old path.now) bytes.items) }
-        ensures unread { IfErr result (CantBeRead MAX_HEADED_SCRIPT (scripts self.old path.now)) }
-        ensures scripts { scripts self.new ≡ scripts self.old }
-        ensures traces { traces self.new ≡ traces self.old };
+        ensures read { IfOk result (λ bytes. AreBytesOf ((paths self.old).scripts path.now) bytes.items) }
+        ensures unread { IfErr result (CantBeRead MAX_HEADED_SCRIPT ((paths self.old).scripts path.now)) }
+        ensures paths { paths self.new ≡ paths self.old };
 
     /// Returns the bytes of the trace or the policy at this path.
     fn trace(&mut self, path: &str) -> Result<Vec<u8>, InputFault>
-        ensures read { IfOk result (λ bytes. AreBytesOf (traces self.old path.now) bytes.items) }
-        ensures unread { IfErr result (CantBeRead MAX_TRACE (traces self.old path.now)) }
-        ensures scripts { scripts self.new ≡ scripts self.old }
-        ensures traces { traces self.new ≡ traces self.old }
-        ensures folders { folders self.new ≡ folders self.old };
+        ensures read { IfOk result (λ bytes. AreBytesOf ((paths self.old).traces path.now) bytes.items) }
+        ensures unread { IfErr result (CantBeRead MAX_TRACE ((paths self.old).traces path.now)) }
+        ensures paths { paths self.new ≡ paths self.old };
 
     /// Returns a reader of the trace or the log at this path, of which no byte is read yet.
     fn open_trace(&mut self, path: &str) -> Result<Self::Trace, InputFault>
-        ensures opened { IfOk result (λ reader. GivesBytesOf (traces self.old path.now) (Self.Trace.remaining reader)) }
+        ensures opened { IfOk result (λ reader. GivesBytesOf ((paths self.old).traces path.now)
+            (Self.Trace.remaining reader)) }
         ensures unopened { IfErr result CantBeOpened }
-        ensures scripts { scripts self.new ≡ scripts self.old }
-        ensures traces { traces self.new ≡ traces self.old };
+        ensures paths { paths self.new ≡ paths self.old };
 
     /// Returns the names of the files of the folder at this path, or none if there is no folder.
     fn folder(&mut self, path: &str) -> Result<Option<Vec<String>>, InputFault>
-        ensures listed { IfOk result (λ found. IsFolder (folders self.old path.now)
-            (option_map (λ files. map string_bytes files.items) found)) }
+        ensures listed { IfOk result (λ found. IsFolder ((paths self.old).folders path.now) (option_map
+            (λ files. map string_bytes files.items) found)) }
         ensures unlisted { IfErr result CantBeOpened }
-        ensures scripts { scripts self.new ≡ scripts self.old }
-        ensures traces { traces self.new ≡ traces self.old }
-        ensures folders { folders self.new ≡ folders self.old };
+        ensures paths { paths self.new ≡ paths self.old };
 
     /// Creates a folder at this path, with these scripts. If that can't be done completely there is no folder.
     fn make_folder(&mut self, path: &str, files: &[HartScript]) -> Result<(), Refusal>
-        ensures made { OnOk result (AreMade path.now files.now (scripts self.new)) }
+        ensures made { OnOk result (AreMade path.now files.now (paths self.new).scripts) }
         ensures unmade { IfErr result CantBeMade };
 
     /// Forgets the inputs that are kept.
     fn forget(&mut self)
-        ensures scripts { scripts self.new ≡ scripts self.old }
-        ensures traces { traces self.new ≡ traces self.old }
-        ensures folders { folders self.new ≡ folders self.old };
+        ensures paths { paths self.new ≡ paths self.old };
 
     /// Returns what is kept of the inputs so far.
     fn kept(&self) -> &Kept;

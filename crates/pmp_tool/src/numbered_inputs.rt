@@ -3,7 +3,7 @@
 ghost use Rattle.std.specs.Prelude.{◌≡◌, IfErr, IfOk};
 ghost use Rattle.pmp_text.specs.declared.trace.reader.TheConstants.{MAX_TRACE};
 ghost use Rattle.pmp_tool.specs.Inputs.{AreBytesOf, CantBeOpened, CantBeRead, GivesBytesOf};
-ghost use Rattle.pmp_tool.specs.NumberedInputs.{traces_for};
+ghost use Rattle.pmp_tool.specs.NumberedInputs.{paths_for};
 
 use crate::inputs::Inputs;
 use crate::naming::Naming;
@@ -18,11 +18,11 @@ pub fn read_trace<I: Inputs>(
     inputs: &mut I,
     path: &str,
 ) -> Result<Vec<u8>, InputFault>
-    ensures read { IfOk result (λ bytes. AreBytesOf (traces_for naming.entry (I.traces inputs.old) path.now)
+    ensures read { IfOk result (λ bytes. AreBytesOf ((paths_for naming.entry (I.paths inputs.old)).traces path.now)
         bytes.items) }
-    ensures unread { IfErr result (CantBeRead MAX_TRACE (traces_for naming.entry (I.traces inputs.old) path.now)) }
-    ensures scripts { I.scripts inputs.new ≡ I.scripts inputs.old }
-    ensures traces { I.traces inputs.new ≡ I.traces inputs.old }
+    ensures unread { IfErr result (CantBeRead MAX_TRACE ((paths_for naming.entry (I.paths inputs.old)).traces
+        path.now)) }
+    ensures paths { I.paths inputs.new ≡ I.paths inputs.old }
 {
     let text = inputs.trace(path)?;
     match naming {
@@ -38,11 +38,10 @@ pub fn open_trace<I: Inputs>(
     inputs: &mut I,
     path: &str,
 ) -> Result<I::Trace, InputFault>
-    ensures opened { IfOk result (λ reader. GivesBytesOf (traces_for naming.entry (I.traces inputs.old) path.now)
-        (I.Trace.remaining reader)) }
+    ensures opened { IfOk result (λ reader. GivesBytesOf ((paths_for naming.entry (I.paths inputs.old)).traces
+        path.now) (I.Trace.remaining reader)) }
     ensures unopened { IfErr result CantBeOpened }
-    ensures scripts { I.scripts inputs.new ≡ I.scripts inputs.old }
-    ensures traces { I.traces inputs.new ≡ I.traces inputs.old }
+    ensures paths { I.paths inputs.new ≡ I.paths inputs.old }
 {
     match naming {
         Some(_) => Err(Refusal::Input),

@@ -2,7 +2,7 @@
 
 ghost use Rattle.std.specs.Prelude.{IfErr, IfOk};
 ghost use Rattle.pmp_audit.specs.Answers.{IsWritten};
-ghost use Rattle.pmp_tool.specs.Inputs.{Inputs};
+ghost use Rattle.pmp_tool.specs.Inputs.{Paths};
 ghost use Rattle.pmp_tool.specs.Requests.{RequestFails, RequestSays};
 ghost use Rattle.pmp_tool.specs.declared.request.Request.TheVariants as request;
 
@@ -22,10 +22,10 @@ pub fn answer_plan<O: Write>(
     asked: Plan,
     out: &mut O,
 ) -> Result<Outcome, Failure>
-    ensures ok { (scripts traces : Inputs) → IfOk result (IsWritten (RequestSays scripts traces plan.now
-        (request.Plan asked)) (O.contents out.old) (O.contents out.new)) }
-    ensures err { (scripts traces : Inputs) → IfErr result (RequestFails (O.contents out.old) (O.contents out.new)
-        scripts traces plan.now (request.Plan asked)) }
+    ensures ok { (paths : Paths) → IfOk result (IsWritten (RequestSays paths plan.now (request.Plan asked))
+        (O.contents out.old) (O.contents out.new)) }
+    ensures err { (paths : Paths) → IfErr result (RequestFails (O.contents out.old) (O.contents out.new) paths plan.now
+        (request.Plan asked)) }
 {
     let Ok(hart) = Hart::new(asked.hart) else {
         return Err(Failure::from(Refusal::BadWord));
@@ -40,10 +40,10 @@ pub fn answer_plan_of<O: Write>(
     script: &[u8],
     out: &mut O,
 ) -> Result<Outcome, Failure>
-    ensures ok { (scripts traces : Inputs) → IfOk result (IsWritten (RequestSays scripts traces script.now
-        request.PlanOf) (O.contents out.old) (O.contents out.new)) }
-    ensures err { (scripts traces : Inputs) → IfErr result (RequestFails (O.contents out.old) (O.contents out.new)
-        scripts traces script.now request.PlanOf) }
+    ensures ok { (paths : Paths) → IfOk result (IsWritten (RequestSays paths script.now request.PlanOf)
+        (O.contents out.old) (O.contents out.new)) }
+    ensures err { (paths : Paths) → IfErr result (RequestFails (O.contents out.old) (O.contents out.new) paths
+        script.now request.PlanOf) }
 {
     write_plan_of(alloc, script, out)?;
     Ok(Outcome::Listed)

@@ -67,15 +67,13 @@ pub fn run_tool<R: Threads + Wait + Sync, I: Inputs, O: Write, E: Write>(
     // The requested text was written, to a folder if the words ask for one, and to standard error only the answer's
     // note.
     ensures answered { result ≤ 1 → (outcome : Outcome) × (result ≡ outcome_status outcome)
-        × Answers (map string_bytes words.now) (I.scripts inputs.old) (I.traces inputs.old) (I.folders inputs.old)
-        (O.contents out.old) (O.contents out.new) (I.scripts inputs.new) outcome
-        × Notes outcome (E.contents err.old) (E.contents err.new) }
+        × Answers (map string_bytes words.now) (I.paths inputs.old) (O.contents out.old) (O.contents out.new)
+        (I.paths inputs.new) outcome × Notes outcome (E.contents err.old) (E.contents err.new) }
 
     // Why it wasn't, or not completely, and how standard error reports that: its line is followed by an explanation if
     // the words ask for one.
     ensures failed { 2 ≤ result → (failure : Failure) × (result ≡ failure_status failure)
-        × Fails (map string_bytes words.now) (I.scripts inputs.old) (I.traces inputs.old) (I.folders inputs.old)
-        (O.contents out.old) (O.contents out.new) failure
+        × Fails (map string_bytes words.now) (I.paths inputs.old) (O.contents out.old) (O.contents out.new) failure
         × TellsAndExplains (map string_bytes words.now) failure (E.contents err.old) (E.contents err.new) }
 
     // A long audit may be refused after rows that it wrote, and an import after lines; nothing else may.
@@ -102,11 +100,10 @@ fn run<R: Threads + Wait + Sync, I: Inputs, O: Write>(
     inputs: &mut I,
     out: &mut O,
 ) -> Result<Outcome, Failure>
-    ensures ok { IfOk result (Answers (map string_bytes words.now) (I.scripts inputs.old) (I.traces inputs.old)
-        (I.folders inputs.old) (O.contents out.old) (O.contents out.new) (I.scripts inputs.new)) }
-    ensures err { IfErr result (Fails (map string_bytes words.now) (I.scripts inputs.old) (I.traces inputs.old)
-        (I.folders inputs.old)
-        (O.contents out.old) (O.contents out.new)) }
+    ensures ok { IfOk result (Answers (map string_bytes words.now) (I.paths inputs.old) (O.contents out.old)
+        (O.contents out.new) (I.paths inputs.new)) }
+    ensures err { IfErr result (Fails (map string_bytes words.now) (I.paths inputs.old) (O.contents out.old)
+        (O.contents out.new)) }
 {
     match parse_words(alloc, words) {
         Ok(matches) => answer_words(rt, alloc, &matches, inputs, out),
@@ -123,10 +120,10 @@ fn answer_words<R: Threads + Wait + Sync, I: Inputs, O: Write>(
     inputs: &mut I,
     out: &mut O,
 ) -> Result<Outcome, Failure>
-    ensures ok { IfOk result (Does (subcommand_rows_of matches.now) (I.scripts inputs.old) (I.traces inputs.old)
-        (I.folders inputs.old) (O.contents out.old) (O.contents out.new) (I.scripts inputs.new)) }
-    ensures err { IfErr result (DoesNot (subcommand_rows_of matches.now) (I.scripts inputs.old) (I.traces inputs.old)
-        (I.folders inputs.old) (O.contents out.old) (O.contents out.new)) }
+    ensures ok { IfOk result (Does (subcommand_rows_of matches.now) (I.paths inputs.old) (O.contents out.old)
+        (O.contents out.new) (I.paths inputs.new)) }
+    ensures err { IfErr result (DoesNot (subcommand_rows_of matches.now) (I.paths inputs.old) (O.contents out.old)
+        (O.contents out.new)) }
 {
     match names_path(matches)? {
         None => answer_without(rt, alloc, matches, inputs, out),
@@ -142,10 +139,10 @@ fn answer_without<R: Threads + Wait + Sync, I: Inputs, O: Write>(
     inputs: &mut I,
     out: &mut O,
 ) -> Result<Outcome, Failure>
-    ensures ok { IfOk result (DoesAt (subcommand_rows_of matches.now) (I.scripts inputs.old) (I.traces inputs.old)
-        (I.folders inputs.old) (O.contents out.old) (O.contents out.new) None (I.scripts inputs.new)) }
-    ensures err { IfErr result (DoesNotAt (subcommand_rows_of matches.now) (I.scripts inputs.old) (I.traces inputs.old)
-        (I.folders inputs.old) (O.contents out.old) (O.contents out.new) None) }
+    ensures ok { IfOk result (DoesAt (subcommand_rows_of matches.now) (I.paths inputs.old) (O.contents out.old)
+        (O.contents out.new) None (I.paths inputs.new)) }
+    ensures err { IfErr result (DoesNotAt (subcommand_rows_of matches.now) (I.paths inputs.old) (O.contents out.old)
+        (O.contents out.new) None) }
 {
     let command = read_command(matches, &[])?;
     answer_all(rt, alloc, command, None, inputs, out)
@@ -160,10 +157,10 @@ fn answer_with<R: Threads + Wait + Sync, I: Inputs, O: Write>(
     inputs: &mut I,
     out: &mut O,
 ) -> Result<Outcome, Failure>
-    ensures ok { IfOk result (DoesAt (subcommand_rows_of matches.now) (I.scripts inputs.old) (I.traces inputs.old)
-        (I.folders inputs.old) (O.contents out.old) (O.contents out.new) (Some path.now) (I.scripts inputs.new)) }
-    ensures err { IfErr result (DoesNotAt (subcommand_rows_of matches.now) (I.scripts inputs.old) (I.traces inputs.old)
-        (I.folders inputs.old) (O.contents out.old) (O.contents out.new) (Some path.now)) }
+    ensures ok { IfOk result (DoesAt (subcommand_rows_of matches.now) (I.paths inputs.old) (O.contents out.old)
+        (O.contents out.new) (Some path.now) (I.paths inputs.new)) }
+    ensures err { IfErr result (DoesNotAt (subcommand_rows_of matches.now) (I.paths inputs.old) (O.contents out.old)
+        (O.contents out.new) (Some path.now)) }
 {
     let text = inputs.trace(path)?;
     let names = read_names(alloc, &text)?;
@@ -182,10 +179,10 @@ fn answer_all<R: Threads + Wait + Sync, I: Inputs, O: Write>(
     inputs: &mut I,
     out: &mut O,
 ) -> Result<Outcome, Failure>
-    ensures ok { IfOk result (Done (I.scripts inputs.old) (I.traces inputs.old) (I.folders inputs.old) command.entry
-        (O.contents out.old) (O.contents out.new) naming.entry (I.scripts inputs.new)) }
-    ensures err { IfErr result (Undone (I.scripts inputs.old) (I.traces inputs.old) (I.folders inputs.old)
-        command.entry (O.contents out.old) (O.contents out.new) naming.entry) }
+    ensures ok { IfOk result (Done (I.paths inputs.old) command.entry (O.contents out.old) (O.contents out.new)
+        naming.entry (I.paths inputs.new)) }
+    ensures err { IfErr result (Undone (I.paths inputs.old) command.entry (O.contents out.old) (O.contents out.new)
+        naming.entry) }
 {
     if let Some((import, folder)) = new_folder(command.request) {
         return import_harts(rt, alloc, command, import, folder, inputs);
@@ -202,11 +199,11 @@ fn answer_by<R: Threads + Wait + Sync, I: Inputs, O: Write>(
     inputs: &mut I,
     out: &mut O,
 ) -> Result<Outcome, Failure>
-    ensures ok { IfOk result (DoneBy (I.scripts inputs.old) (I.traces inputs.old) (I.folders inputs.old) command.entry
-        (O.contents out.old) (O.contents out.new) naming.entry) }
-    ensures err { IfErr result (UndoneBy (I.scripts inputs.old) (I.traces inputs.old) (I.folders inputs.old)
-        command.entry (O.contents out.old) (O.contents out.new) naming.entry) }
-    ensures scripts { I.scripts inputs.new ≡ I.scripts inputs.old }
+    ensures ok { IfOk result (DoneBy (I.paths inputs.old) command.entry (O.contents out.old) (O.contents out.new)
+        naming.entry) }
+    ensures err { IfErr result (UndoneBy (I.paths inputs.old) command.entry (O.contents out.old) (O.contents out.new)
+        naming.entry) }
+    ensures paths { I.paths inputs.new ≡ I.paths inputs.old }
 {
     match Harts::find(alloc, command, inputs)? {
         None => answer_one(rt, alloc, command, naming, inputs, out),

@@ -82,15 +82,17 @@ If SCRIPT, OLD or NEW is a folder, `check`, `why`, `audit`, `policy`, `map`,
 `entries`, `writes`, `lint` and `diff` run for each hart: each file in it whose
 name ends with `.pmp` and doesn't begin with a dot. Each line begins with that
 name and a comma. The status is 0 if it is 0 for each hart. `pmp harts` writes
-where harts of a folder differ from the first one: the rows of `diff`, each
-after the other hart's name, and with `--locks` those of locks too.
+where harts of a folder differ from the first one: rows as `pmp help diff`
+describes, each after the other hart's name, and with `--locks` those of locks
+too.
 
 A number is 1 to 20 decimal digits, or `0x` and 1 to 16 hexadecimal digits,
 below 2^64. Without `0x` it is decimal.
 
-`pmp help script`, `pmp help trace` and `pmp help rows` describe formats, and
-`pmp help COMMAND` a command, its arguments and its output. docs/FORMATS.md
-describes all of it byte by byte, and has every refusal by its number.";
+`pmp help script`, `pmp help trace`, `pmp help names` and `pmp help rows`
+describe formats, and `pmp help COMMAND` a command, its arguments and its
+output. docs/FORMATS.md describes all of it byte by byte, and has every refusal
+by its number.";
 
 pub const TRACE: &str = "\
 A trace lists accesses, each with how many publications of a script are done
@@ -115,9 +117,37 @@ blanks, blank lines are no rows, and there are no comments.
 A number is 1 to 20 decimal digits, or `0x` and 1 to 16 hexadecimal digits,
 below 2^64. Without `0x` it is decimal.
 
-`pmp help script`, `pmp help trace` and `pmp help rows` describe formats, and
-`pmp help COMMAND` a command, its arguments and its output. docs/FORMATS.md
-describes all of it byte by byte, and has every refusal by its number.";
+`pmp help script`, `pmp help trace`, `pmp help names` and `pmp help rows`
+describe formats, and `pmp help COMMAND` a command, its arguments and its
+output. docs/FORMATS.md describes all of it byte by byte, and has every refusal
+by its number.";
+
+pub const NAMES: &str = "\
+With `--names FILE`, an address may be a name or NAME`+`OFFSET, a number of
+bytes after its first byte: START of `check` and `why`, `start` of a trace
+(without `--long`), `first` and `last` of a policy. NAME is its first byte, and
+as `last` its last one, so `heap,heap` is all of it. `policy`, `map`, `entries`,
+`lint`, `diff` and `harts` write after each row a comma and the names of its
+bytes, from FIRST to LAST, in FILE's order and with blanks between: NAME if the
+range has all bytes of the name, NAME`+0x`OFFSET if only a part, OFFSET bytes
+into it. `picture` has them as a last column. FILE has the line
+`first,last,name`, and then one for each name, as
+`0x80000000,0x8003ffff,firmware` and `0x10000000,0x10000fff,uart`: the byte
+address of the first byte; that of the last, not below; and the name, 1 to 64
+printable bytes without blank, `\"`, `+` and `,`, the first one no digit.
+
+A number is 1 to 20 decimal digits, or `0x` and 1 to 16 hexadecimal digits,
+below 2^64. Without `0x` it is decimal.
+
+Example:
+  printf 'first,last,name\\n0x80000000,0x8003ffff,firmware\\n' > names.csv
+  echo 'pmp 1' | pmp check stdin U load firmware+0x10 8 --names names.csv
+  It answers 1,fault,5,none,
+
+`pmp help script`, `pmp help trace`, `pmp help names` and `pmp help rows`
+describe formats, and `pmp help COMMAND` a command, its arguments and its
+output. docs/FORMATS.md describes all of it byte by byte, and has every refusal
+by its number.";
 
 pub const ROWS: &str = "\
 Each line ends with LF. Except in the scripts and plans of `import` and `plan`,
@@ -203,9 +233,10 @@ FOLDER` makes a folder with one for each hart that writes, like `hart0.pmp`.
   publish
   pmp: note: hart 0, 16 entries, since the log is read once
 
-`pmp help script`, `pmp help trace` and `pmp help rows` describe formats, and
-`pmp help COMMAND` a command, its arguments and its output. docs/FORMATS.md
-describes all of it byte by byte, and has every refusal by its number.";
+`pmp help script`, `pmp help trace`, `pmp help names` and `pmp help rows`
+describe formats, and `pmp help COMMAND` a command, its arguments and its
+output. docs/FORMATS.md describes all of it byte by byte, and has every refusal
+by its number.";
 
 pub const MORE: &str = "\
 Exit status:
@@ -223,14 +254,10 @@ Example:
   echo 'pmp 1' | pmp check stdin U load 0x80000ff8 8 --expect fault
   It answers 1,fault,5,none,
 
-Example of names of addresses:
-  printf 'first,last,name\\n0x80000000,0x8003ffff,firmware\\n' > names.csv
-  echo 'pmp 1' | pmp check stdin U load firmware+0x10 8 --names names.csv
-  It answers 1,fault,5,none,
-
-`pmp help script`, `pmp help trace` and `pmp help rows` describe formats, and
-`pmp help COMMAND` a command, its arguments and its output. docs/FORMATS.md
-describes all of it byte by byte, and has every refusal by its number.";
+`pmp help script`, `pmp help trace`, `pmp help names` and `pmp help rows`
+describe formats, and `pmp help COMMAND` a command, its arguments and its
+output. docs/FORMATS.md describes all of it byte by byte, and has every refusal
+by its number.";
 
 pub const MORE_OF_CHECK: &str = "\
 A number is 1 to 20 decimal digits, or `0x` and 1 to 16 hexadecimal digits,
@@ -246,19 +273,6 @@ for each row of the trace, in order.
           every byte, split if it doesn't, none if no entry matches any byte
   ENTRY   that entry's number, empty for none
 
-With `--names FILE`, an address may be a name or NAME`+`OFFSET, a number of
-bytes after its first byte: START of `check` and `why`, `start` of a trace
-(without `--long`), `first` and `last` of a policy. NAME is its first byte, and
-as `last` its last one, so `heap,heap` is all of it. `policy`, `map`, `entries`,
-`lint`, `diff` and `harts` write after each row a comma and the names of its
-bytes, from FIRST to LAST, in FILE's order and with blanks between: NAME if the
-range has all bytes of the name, NAME`+0x`OFFSET if only a part, OFFSET bytes
-into it. `picture` has them as a last column. FILE has the line
-`first,last,name`, and then one for each name, as
-`0x80000000,0x8003ffff,firmware` and `0x10000000,0x10000fff,uart`: the byte
-address of the first byte; that of the last, not below; and the name, 1 to 64
-printable bytes without blank, `\"`, `+` and `,`, the first one no digit.
-
 Exit status:
   0  the answer is allow, or the one that --expect names
   1  it is the other one
@@ -267,11 +281,6 @@ Exit status:
 
 Example:
   echo 'pmp 1' | pmp check stdin U load 0x80000ff8 8 --expect fault
-  It answers 1,fault,5,none,
-
-Example of names of addresses:
-  printf 'first,last,name\\n0x80000000,0x8003ffff,firmware\\n' > names.csv
-  echo 'pmp 1' | pmp check stdin U load firmware+0x10 8 --names names.csv
   It answers 1,fault,5,none,
 
 docs/FORMATS.md describes all of it byte by byte, and has every refusal by its
@@ -315,19 +324,6 @@ for each row of the trace, in order.
   CAUSE   rule if the first entry that matches any byte of the access matches
           every byte, split if it doesn't, none if no entry matches any byte
   ENTRY   that entry's number, empty for none
-
-With `--names FILE`, an address may be a name or NAME`+`OFFSET, a number of
-bytes after its first byte: START of `check` and `why`, `start` of a trace
-(without `--long`), `first` and `last` of a policy. NAME is its first byte, and
-as `last` its last one, so `heap,heap` is all of it. `policy`, `map`, `entries`,
-`lint`, `diff` and `harts` write after each row a comma and the names of its
-bytes, from FIRST to LAST, in FILE's order and with blanks between: NAME if the
-range has all bytes of the name, NAME`+0x`OFFSET if only a part, OFFSET bytes
-into it. `picture` has them as a last column. FILE has the line
-`first,last,name`, and then one for each name, as
-`0x80000000,0x8003ffff,firmware` and `0x10000000,0x10000fff,uart`: the byte
-address of the first byte; that of the last, not below; and the name, 1 to 64
-printable bytes without blank, `\"`, `+` and `,`, the first one no digit.
 
 Exit status:
   0  the access is allowed
@@ -452,19 +448,6 @@ address, or `N,unmet,,,,`; then, if the header has them, `,NAME,COMMENT`.
   NAME, COMMENT  the row's, as fields of CSV: in quotes if they have a comma or
                  a quote, and then with \"\" for a quote
 
-With `--names FILE`, an address may be a name or NAME`+`OFFSET, a number of
-bytes after its first byte: START of `check` and `why`, `start` of a trace
-(without `--long`), `first` and `last` of a policy. NAME is its first byte, and
-as `last` its last one, so `heap,heap` is all of it. `policy`, `map`, `entries`,
-`lint`, `diff` and `harts` write after each row a comma and the names of its
-bytes, from FIRST to LAST, in FILE's order and with blanks between: NAME if the
-range has all bytes of the name, NAME`+0x`OFFSET if only a part, OFFSET bytes
-into it. `picture` has them as a last column. FILE has the line
-`first,last,name`, and then one for each name, as
-`0x80000000,0x8003ffff,firmware` and `0x10000000,0x10000fff,uart`: the byte
-address of the first byte; that of the last, not below; and the name, 1 to 64
-printable bytes without blank, `\"`, `+` and `,`, the first one no digit.
-
 Exit status:
   0  every row, if there are any, holds, or is unmet with if-any
   1  a row is broken, or unmet without if-any
@@ -518,19 +501,6 @@ bytes with one owner, or with none.
 An access within one run is decided by its rights. One across runs is denied,
 `split` by its lowest-numbered owner. The runs cover byte 0 to byte 2^56 - 1,
 and neighbours have different owners: at most 33 with 16 entries, 129 with 64.
-
-With `--names FILE`, an address may be a name or NAME`+`OFFSET, a number of
-bytes after its first byte: START of `check` and `why`, `start` of a trace
-(without `--long`), `first` and `last` of a policy. NAME is its first byte, and
-as `last` its last one, so `heap,heap` is all of it. `policy`, `map`, `entries`,
-`lint`, `diff` and `harts` write after each row a comma and the names of its
-bytes, from FIRST to LAST, in FILE's order and with blanks between: NAME if the
-range has all bytes of the name, NAME`+0x`OFFSET if only a part, OFFSET bytes
-into it. `picture` has them as a last column. FILE has the line
-`first,last,name`, and then one for each name, as
-`0x80000000,0x8003ffff,firmware` and `0x10000000,0x10000fff,uart`: the byte
-address of the first byte; that of the last, not below; and the name, 1 to 64
-printable bytes without blank, `\"`, `+` and `,`, the first one no digit.
 
 Exit status:
   0  the answer is written
@@ -608,19 +578,6 @@ through all later writes without a reset. From publication HOLDS on, until a
 reset, no write allows what the entry denies, and none denies what it allows
 while MML doesn't change. If an entry is frozen and HOLDS is empty, one before
 it isn't frozen, and may be able to take its bytes.
-
-With `--names FILE`, an address may be a name or NAME`+`OFFSET, a number of
-bytes after its first byte: START of `check` and `why`, `start` of a trace
-(without `--long`), `first` and `last` of a policy. NAME is its first byte, and
-as `last` its last one, so `heap,heap` is all of it. `policy`, `map`, `entries`,
-`lint`, `diff` and `harts` write after each row a comma and the names of its
-bytes, from FIRST to LAST, in FILE's order and with blanks between: NAME if the
-range has all bytes of the name, NAME`+0x`OFFSET if only a part, OFFSET bytes
-into it. `picture` has them as a last column. FILE has the line
-`first,last,name`, and then one for each name, as
-`0x80000000,0x8003ffff,firmware` and `0x10000000,0x10000fff,uart`: the byte
-address of the first byte; that of the last, not below; and the name, 1 to 64
-printable bytes without blank, `\"`, `+` and `,`, the first one no digit.
 
 Exit status:
   0  the answer is written
@@ -735,19 +692,6 @@ at LINE.
   MODES        the letters of the modes, M, SU or MSU, for 5 and 6; otherwise
                empty
 
-With `--names FILE`, an address may be a name or NAME`+`OFFSET, a number of
-bytes after its first byte: START of `check` and `why`, `start` of a trace
-(without `--long`), `first` and `last` of a policy. NAME is its first byte, and
-as `last` its last one, so `heap,heap` is all of it. `policy`, `map`, `entries`,
-`lint`, `diff` and `harts` write after each row a comma and the names of its
-bytes, from FIRST to LAST, in FILE's order and with blanks between: NAME if the
-range has all bytes of the name, NAME`+0x`OFFSET if only a part, OFFSET bytes
-into it. `picture` has them as a last column. FILE has the line
-`first,last,name`, and then one for each name, as
-`0x80000000,0x8003ffff,firmware` and `0x10000000,0x10000fff,uart`: the byte
-address of the first byte; that of the last, not below; and the name, 1 to 64
-printable bytes without blank, `\"`, `+` and `,`, the first one no digit.
-
 Exit status:
   0  there is no row to write
   1  rows were written
@@ -787,19 +731,6 @@ longest ranges of bytes whose lock differs. `--only` keeps them all.
   bypassed  its owner's L is 1 while RLB is 1
   -         its owner's L is 0, or no entry owns it and some entry isn't frozen
 
-With `--names FILE`, an address may be a name or NAME`+`OFFSET, a number of
-bytes after its first byte: START of `check` and `why`, `start` of a trace
-(without `--long`), `first` and `last` of a policy. NAME is its first byte, and
-as `last` its last one, so `heap,heap` is all of it. `policy`, `map`, `entries`,
-`lint`, `diff` and `harts` write after each row a comma and the names of its
-bytes, from FIRST to LAST, in FILE's order and with blanks between: NAME if the
-range has all bytes of the name, NAME`+0x`OFFSET if only a part, OFFSET bytes
-into it. `picture` has them as a last column. FILE has the line
-`first,last,name`, and then one for each name, as
-`0x80000000,0x8003ffff,firmware` and `0x10000000,0x10000fff,uart`: the byte
-address of the first byte; that of the last, not below; and the name, 1 to 64
-printable bytes without blank, `\"`, `+` and `,`, the first one no digit.
-
 Exit status:
   0  there is no row to write
   1  rows were written
@@ -827,43 +758,9 @@ If SCRIPT, OLD or NEW is a folder, `check`, `why`, `audit`, `policy`, `map`,
 `entries`, `writes`, `lint` and `diff` run for each hart: each file in it whose
 name ends with `.pmp` and doesn't begin with a dot. Each line begins with that
 name and a comma. The status is 0 if it is 0 for each hart. `pmp harts` writes
-where harts of a folder differ from the first one: the rows of `diff`, each
-after the other hart's name, and with `--locks` those of locks too.
-
-`pmp diff` writes `FIRST,LAST,MOLD,SUOLD,MNEW,SUNEW,CHANGE` for the longest
-ranges of bytes whose rights differ between two scripts' register files, whoever
-owns the bytes, from the lowest address on.
-  FIRST, LAST  the byte addresses of the first and the last byte
-  MOLD, SUOLD  what M-mode, and what S-mode and U-mode, may do there by the old
-               script: r, w and x, or - for each
-  MNEW, SUNEW  the same by the new script
-  CHANGE       more if the new rights have all of the old ones, less if the old
-               rights have all of the new ones, otherwise both. --only more
-               leaves out rows that say less, and --only less those that say
-               more
-
-Only the two states are compared, not what was open before them; the scripts may
-be one file, or of different versions. With `--locks`, rows
-`FIRST,LAST,LOCKOLD,LOCKNEW` follow, also by address: one for each of the
-longest ranges of bytes whose lock differs. `--only` keeps them all.
-  held      its owner and all entries before it are frozen, or no entry owns it
-            and all entries are
-  frozen    its owner is frozen, and an entry before that one isn't
-  bypassed  its owner's L is 1 while RLB is 1
-  -         its owner's L is 0, or no entry owns it and some entry isn't frozen
-
-With `--names FILE`, an address may be a name or NAME`+`OFFSET, a number of
-bytes after its first byte: START of `check` and `why`, `start` of a trace
-(without `--long`), `first` and `last` of a policy. NAME is its first byte, and
-as `last` its last one, so `heap,heap` is all of it. `policy`, `map`, `entries`,
-`lint`, `diff` and `harts` write after each row a comma and the names of its
-bytes, from FIRST to LAST, in FILE's order and with blanks between: NAME if the
-range has all bytes of the name, NAME`+0x`OFFSET if only a part, OFFSET bytes
-into it. `picture` has them as a last column. FILE has the line
-`first,last,name`, and then one for each name, as
-`0x80000000,0x8003ffff,firmware` and `0x10000000,0x10000fff,uart`: the byte
-address of the first byte; that of the last, not below; and the name, 1 to 64
-printable bytes without blank, `\"`, `+` and `,`, the first one no digit.
+where harts of a folder differ from the first one: rows as `pmp help diff`
+describes, each after the other hart's name, and with `--locks` those of locks
+too.
 
 Exit status:
   0  there is no row to write

@@ -1,6 +1,6 @@
 //! One round: the rows that ask for exactly what is published, decided by all workers.
 
-ghost use Rattle.std.specs.Prelude.{◌≡◌, ◌+◌, ◌^◌, ◌<◌, ◌≤◌, ◌++◌, IfOk, IfErr, OnOk, All, Any, length, drop};
+ghost use Rattle.std.specs.Prelude.{◌≡◌, ◌+◌, ◌^◌, ◌<◌, ◌≤◌, ◌++◌, IfOk, IfErr, All, Any, length, drop};
 ghost use Rattle.pmp_share.specs.declared.fault.ShareFault.TheVariants.{Full};
 ghost use Rattle.pmp_share.specs.declared.opening.TheConstants.{CHECKERS};
 ghost use Rattle.pmp_share.specs.Batches.{file_from};
@@ -61,10 +61,10 @@ fn round<R: Threads + Wait + Sync, G: Gate + Sync>(
     requires same_unit { All (λ checker. checker.unit ≡ publisher.old.unit) checkers.items }
     requires room { length decided.old.items + length rows.now + 1 ≤ 2 ^ 64 }
     ensures same { publisher.new ≡ publisher.old }
-    ensures checkers { IfOk result (λ all. AreCheckersOf publisher.old.unit (length checkers.items) all.items) }
-    ensures decided { OnOk result (decided.new.items
-        ≡ decided.old.items ++ decided_in (file_from publisher.old.unit.base publisher.old.published) rows.now) }
-    ensures refused { IfErr result (StopsRound publisher.old.published) }
+    ensures ok { IfOk result (λ all. AreCheckersOf publisher.old.unit (length checkers.items) all.items
+        × (decided.new.items
+        ≡ decided.old.items ++ decided_in (file_from publisher.old.unit.base publisher.old.published) rows.now)) }
+    ensures err { IfErr result (StopsRound publisher.old.published) }
 {
     let first = decided.len() as u64 + 1;
     let jobs = jobs_of(alloc, publisher, checkers)?;
@@ -91,12 +91,12 @@ pub(crate) fn decide_asking<R: Threads + Wait + Sync, G: Gate + Sync>(
     requires same_unit { All (λ checker. checker.unit ≡ publisher.old.unit) checkers.items }
     requires within { length decided.old.items ≤ length rows.now }
     ensures same { publisher.new ≡ publisher.old }
-    ensures checkers { IfOk result (λ all. AreCheckersOf publisher.old.unit (length checkers.items) all.items) }
-    ensures decided { OnOk result (decided.new.items ≡ decided.old.items
+    ensures ok { IfOk result (λ all. AreCheckersOf publisher.old.unit (length checkers.items) all.items
+        × (decided.new.items ≡ decided.old.items
         ++ decided_in (file_from publisher.old.unit.base publisher.old.published)
-        (asking after (drop (length decided.old.items) rows.now))) }
-    ensures refused { IfErr result (StopsRound publisher.old.published) }
-    ensures asked { IfErr result (λ _. Any (λ row. row.after ≡ after) rows.now) }
+        (asking after (drop (length decided.old.items) rows.now)))) }
+    ensures err { IfErr result (λ fault. StopsRound publisher.old.published fault
+        × Any (λ row. row.after ≡ after) rows.now) }
 {
     let next = asking(&rows[decided.len()..], after);
     if next.is_empty() {

@@ -31,51 +31,17 @@ pub(crate) fn run_jobs<R: Threads + Sync, G: Gate + Sync>(
     requires numbered { first + length rows.now ≤ 2 ^ 64 }
     ensures { IfOk result (λ results. AreResults (length jobs.items) first rows.now jobs.items results.items) }
 {
+    let workers = jobs.len() as u8;
     if gate.may_wait() || rows.len() / jobs.len() >= FEW {
-        return run_on_threads(rt, alloc, gate, jobs, rows, first);
+        return thread::map_vec(
+            rt,
+            jobs,
+            &|job: Job| -> Result<Done, AuditFault>
+                requires { (0 < workers) × (first + length rows.now ≤ 2 ^ 64) }
+                ensures { IsResult workers first rows.entry.now job result }
+            { work(alloc, gate, job, workers, rows, first) },
+        );
     }
-    run_in_turn(alloc, gate, jobs, rows, first)
-}
-
-/// Does each job on a thread of its own.
-fn run_on_threads<R: Threads + Sync, G: Gate + Sync>(
-    rt: &R,
-    alloc: Global,
-    gate: &G,
-    jobs: Vec<Job>,
-    rows: &[Row],
-    first: u64,
-) -> Result<Vec<Result<Done, AuditFault>>, AllocError>
-    requires some { 0 < length jobs.items }
-    requires few { length jobs.items ≤ CHECKERS }
-    requires numbered { first + length rows.now ≤ 2 ^ 64 }
-    ensures { IfOk result (λ results. AreResults (length jobs.items) first rows.now jobs.items results.items) }
-{
-    let workers = jobs.len() as u8;
-    thread::map_vec(
-        rt,
-        jobs,
-        &|job: Job| -> Result<Done, AuditFault>
-            requires { (0 < workers) × (first + length rows.now ≤ 2 ^ 64) }
-            ensures { IsResult workers first rows.entry.now job result }
-        { work(alloc, gate, job, workers, rows, first) },
-    )
-}
-
-/// Does one job after the other.
-fn run_in_turn<G: Gate>(
-    alloc: Global,
-    gate: &G,
-    jobs: Vec<Job>,
-    rows: &[Row],
-    first: u64,
-) -> Result<Vec<Result<Done, AuditFault>>, AllocError>
-    requires some { 0 < length jobs.items }
-    requires few { length jobs.items ≤ CHECKERS }
-    requires numbered { first + length rows.now ≤ 2 ^ 64 }
-    ensures { IfOk result (λ results. AreResults (length jobs.items) first rows.now jobs.items results.items) }
-{
-    let workers = jobs.len() as u8;
     let mut results = Vec::new(alloc);
     for job in jobs {
         results.push(work(alloc, gate, job, workers, rows, first))?;

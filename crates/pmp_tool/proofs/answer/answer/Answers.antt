@@ -14,11 +14,11 @@ returns-clause-ok g c =
     let script = c.in_ok-script in
     IfOk-weaker c.answer_request.result _ _
     (λ outcome written. record { script = script.script.items; read = script.ensures.read; written = written })
-    (rw (c.deref.ensures.value, script.ensures.scripts, script.ensures.traces) at c.answer_request.ensures.ok)
+    (rw (c.deref.ensures.value, script.ensures.paths) at c.answer_request.ensures.ok)
 
 pub returns-clause-err : goal.returns-clause-err
 returns-clause-err g c =
     let script = c.in_ok-script in
     IfErr-weaker c.answer_request.result _ _
     (λ failure fails. of_script script.script.items failure script.ensures.read fails)
-    (rw (c.deref.ensures.value, script.ensures.scripts, script.ensures.traces) at c.answer_request.ensures.err)
+    (rw (c.deref.ensures.value, script.ensures.paths) at c.answer_request.ensures.err)

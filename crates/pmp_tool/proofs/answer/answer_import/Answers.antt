@@ -15,14 +15,14 @@ returns-in_err-import-clause-err g c = λ script.
     let exit = c.from_residual-in_err-import in
     let p = err_from_is_err_and exit.result exit.ensures.1 in
     let cant = c.in_err-import.ensures.err in
-    let opened = rw c.in_ok-given.ensures.traces at c.in_ok-log.ensures.opened in
+    let opened = rw c.in_ok-given.ensures.paths at c.in_ok-log.ensures.opened in
     rw (p.1, p.2) (unwritten c.in_ok-given.given c.in_ok-given.note cant.log c.in_err-import.field-0.0
     c.in_ok-given.ensures.ok (bytes_given _ _ cant.log opened cant.is_log) cant.stops cant.part cant.written)
 
 pub returns-clause-ok : goal.returns-clause-ok
 returns-clause-ok g c = λ script.
     let done = c.in_ok-import.ensures.ok in
-    let opened = rw c.in_ok-given.ensures.traces at c.in_ok-log.ensures.opened in
+    let opened = rw c.in_ok-given.ensures.paths at c.in_ok-log.ensures.opened in
     record {
       text = done.script;
       says = record {

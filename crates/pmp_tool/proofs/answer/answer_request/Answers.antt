@@ -1,49 +1,49 @@
 use Rattle.pmp_tool.specs.declared.request.Request.TheVariants as request
 use Rattle.pmp_tool.specs.Failures.{unaudited}
 use Rattle.pmp_tool.proofs.Answering.{declined, refused_so}
-use Rattle.pmp_tool.specs.NumberedInputs.{traces_for}
+use Rattle.pmp_tool.specs.NumberedInputs.{paths_for}
 use Rattle.pmp_tool.proofs.answer.answer_request.Goals as goal
 
 pub returns-in-Check-clause-ok : goal.returns-in-Check-clause-ok
 returns-in-Check-clause-ok g c = rw c.in-Check.is
-    (c.answer_check.ensures.ok (g.I.Inputs.scripts c.args.inputs.now) (traces_for c.args.naming (g.I.Inputs.traces c.args.inputs.now)))
+    (c.answer_check.ensures.ok (paths_for c.args.naming (g.I.Inputs.paths c.args.inputs.now)))
 
 pub returns-in-Check-clause-err : goal.returns-in-Check-clause-err
 returns-in-Check-clause-err g c = rw c.in-Check.is
-    (c.answer_check.ensures.err (g.I.Inputs.scripts c.args.inputs.now) (traces_for c.args.naming (g.I.Inputs.traces c.args.inputs.now)))
+    (c.answer_check.ensures.err (paths_for c.args.naming (g.I.Inputs.paths c.args.inputs.now)))
 
 pub returns-in-Why-clause-ok : goal.returns-in-Why-clause-ok
 returns-in-Why-clause-ok g c = rw c.in-Why.is
-    (c.answer_why.ensures.ok (g.I.Inputs.scripts c.args.inputs.now) (traces_for c.args.naming (g.I.Inputs.traces c.args.inputs.now)))
+    (c.answer_why.ensures.ok (paths_for c.args.naming (g.I.Inputs.paths c.args.inputs.now)))
 
 pub returns-in-Why-clause-err : goal.returns-in-Why-clause-err
 returns-in-Why-clause-err g c = rw c.in-Why.is
-    (c.answer_why.ensures.err (g.I.Inputs.scripts c.args.inputs.now) (traces_for c.args.naming (g.I.Inputs.traces c.args.inputs.now)))
+    (c.answer_why.ensures.err (paths_for c.args.naming (g.I.Inputs.paths c.args.inputs.now)))
 
 pub returns-in-Show-clause-ok : goal.returns-in-Show-clause-ok
 returns-in-Show-clause-ok g c = rw c.in-Show.is
-    (c.answer_show.ensures.ok (g.I.Inputs.scripts c.args.inputs.now) (traces_for c.args.naming (g.I.Inputs.traces c.args.inputs.now)))
+    (c.answer_show.ensures.ok (paths_for c.args.naming (g.I.Inputs.paths c.args.inputs.now)))
 
 pub returns-in-Show-clause-err : goal.returns-in-Show-clause-err
 returns-in-Show-clause-err g c = rw c.in-Show.is
-    (c.answer_show.ensures.err (g.I.Inputs.scripts c.args.inputs.now) (traces_for c.args.naming (g.I.Inputs.traces c.args.inputs.now)))
+    (c.answer_show.ensures.err (paths_for c.args.naming (g.I.Inputs.paths c.args.inputs.now)))
 
 pub returns-in_err-writes-in-Writes-clause-err : goal.returns-in_err-writes-in-Writes-clause-err
 returns-in_err-writes-in-Writes-clause-err g c =
     let fault = c.in_err-writes-in-Writes.field-0.0 in
     let exit = c.from_residual in
     rw c.in-Writes.is
-    (refused_so _ _ (g.I.Inputs.scripts c.args.inputs.now) (traces_for c.args.naming (g.I.Inputs.traces c.args.inputs.now)) c.args.script.now
+    (refused_so _ _ (paths_for c.args.naming (g.I.Inputs.paths c.args.inputs.now)) c.args.script.now
     request.Writes exit.result (unaudited fault) exit.ensures.1
     (declined fault c.in_err-writes-in-Writes.ensures.err))
 
 pub returns-in-Lint-clause-ok : goal.returns-in-Lint-clause-ok
 returns-in-Lint-clause-ok g c = rw c.in-Lint.is
-    (c.answer_lint.ensures.ok (g.I.Inputs.scripts c.args.inputs.now) (traces_for c.args.naming (g.I.Inputs.traces c.args.inputs.now)))
+    (c.answer_lint.ensures.ok (paths_for c.args.naming (g.I.Inputs.paths c.args.inputs.now)))
 
 pub returns-in-Lint-clause-err : goal.returns-in-Lint-clause-err
 returns-in-Lint-clause-err g c = rw c.in-Lint.is
-    (c.answer_lint.ensures.err (g.I.Inputs.scripts c.args.inputs.now) (traces_for c.args.naming (g.I.Inputs.traces c.args.inputs.now)))
+    (c.answer_lint.ensures.err (paths_for c.args.naming (g.I.Inputs.paths c.args.inputs.now)))
 
 pub returns-in-Audit-clause-ok : goal.returns-in-Audit-clause-ok
 returns-in-Audit-clause-ok g c = rw c.in-Audit.is c.answer_audit.ensures.ok
@@ -65,11 +65,11 @@ returns-in-Policy-clause-err g c = rw c.in-Policy.is c.answer_policy.ensures.err
 
 pub returns-in-Diff-clause-ok : goal.returns-in-Diff-clause-ok
 returns-in-Diff-clause-ok g c = rw c.in-Diff.is
-    (c.answer_diff.ensures.ok (traces_for c.args.naming (g.I.Inputs.traces c.args.inputs.now)))
+    (c.answer_diff.ensures.ok (paths_for c.args.naming (g.I.Inputs.paths c.args.inputs.now)))
 
 pub returns-in-Diff-clause-err : goal.returns-in-Diff-clause-err
 returns-in-Diff-clause-err g c = rw c.in-Diff.is
-    (c.answer_diff.ensures.err (traces_for c.args.naming (g.I.Inputs.traces c.args.inputs.now)))
+    (c.answer_diff.ensures.err (paths_for c.args.naming (g.I.Inputs.paths c.args.inputs.now)))
 
 pub returns-in-Import-clause-ok : goal.returns-in-Import-clause-ok
 returns-in-Import-clause-ok g c = rw c.in-Import.is (c.answer_import.ensures.ok c.args.script.now)
@@ -79,16 +79,16 @@ returns-in-Import-clause-err g c = rw c.in-Import.is (c.answer_import.ensures.er
 
 pub returns-in-Plan-clause-ok : goal.returns-in-Plan-clause-ok
 returns-in-Plan-clause-ok g c = rw c.in-Plan.is
-    (c.answer_plan.ensures.ok (g.I.Inputs.scripts c.args.inputs.now) (traces_for c.args.naming (g.I.Inputs.traces c.args.inputs.now)))
+    (c.answer_plan.ensures.ok (paths_for c.args.naming (g.I.Inputs.paths c.args.inputs.now)))
 
 pub returns-in-Plan-clause-err : goal.returns-in-Plan-clause-err
 returns-in-Plan-clause-err g c = rw c.in-Plan.is
-    (c.answer_plan.ensures.err (g.I.Inputs.scripts c.args.inputs.now) (traces_for c.args.naming (g.I.Inputs.traces c.args.inputs.now)))
+    (c.answer_plan.ensures.err (paths_for c.args.naming (g.I.Inputs.paths c.args.inputs.now)))
 
 pub returns-in-PlanOf-clause-ok : goal.returns-in-PlanOf-clause-ok
 returns-in-PlanOf-clause-ok g c = rw c.in-PlanOf.is
-    (c.answer_plan_of.ensures.ok (g.I.Inputs.scripts c.args.inputs.now) (traces_for c.args.naming (g.I.Inputs.traces c.args.inputs.now)))
+    (c.answer_plan_of.ensures.ok (paths_for c.args.naming (g.I.Inputs.paths c.args.inputs.now)))
 
 pub returns-in-PlanOf-clause-err : goal.returns-in-PlanOf-clause-err
 returns-in-PlanOf-clause-err g c = rw c.in-PlanOf.is
-    (c.answer_plan_of.ensures.err (g.I.Inputs.scripts c.args.inputs.now) (traces_for c.args.naming (g.I.Inputs.traces c.args.inputs.now)))
+    (c.answer_plan_of.ensures.err (paths_for c.args.naming (g.I.Inputs.paths c.args.inputs.now)))

@@ -12,6 +12,9 @@ returns c =
     let trace =
     command_added c.in_ok-subcommand.field-0 c.topic-2.result c.in_ok-subcommand-2.field-0 _
     (topic_app (codes "trace")) script c.topic-2.ensures c.in_ok-subcommand-2.ensures in
-    IfOk-weaker c.subcommand-3.result _ _
-    (λ new added. command_added c.in_ok-subcommand-2.field-0 c.topic-3.result new _
-    (topic_app (codes "rows")) trace c.topic-3.ensures added) c.subcommand-3.ensures
+    let names =
+    command_added c.in_ok-subcommand-2.field-0 c.topic-3.result c.in_ok-subcommand-3.field-0 _
+    (topic_app (codes "names")) trace c.topic-3.ensures c.in_ok-subcommand-3.ensures in
+    IfOk-weaker c.subcommand-4.result _ _
+    (λ new added. command_added c.in_ok-subcommand-3.field-0 c.topic-4.result new _
+    (topic_app (codes "rows")) names c.topic-4.ensures added) c.subcommand-4.ensures

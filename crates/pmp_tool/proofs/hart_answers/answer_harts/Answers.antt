@@ -14,8 +14,7 @@ loop-hart-init g c = record {
     c.new-rows.ensures.items,
     refl,
   );
-  scripts = refl;
-  traces = refl;
+  paths = refl;
 }
 
 pub returns-in_err-one-clause-err : goal.returns-in_err-one-clause-err
@@ -25,7 +24,7 @@ returns-in_err-one-clause-err g c =
     let (answers, are, rows, outcome) = inv.answered in
     rw (p.1, p.2) (failed_on c.args.command c.args.naming c.args.harts.now c.in-Some.hart.now (names_of c.in-Some.behind.now) answers
     (rw (ap names_of c.in-Some.ensures.cases.0) at are) _ _
-    (rw (inv.scripts, inv.traces) at c.in_err-one.ensures.err))
+    (rw inv.paths at c.in_err-one.ensures.err))
 
 pub loop-hart-preserved : goal.loop-hart-preserved
 loop-hart-preserved g c =
@@ -34,9 +33,8 @@ loop-hart-preserved g c =
     record {
       answered = rw c.worse-outcome.ensures (answered_more c.args.command c.args.naming c.args.harts.now c.in-Some.hart.now.name.bytes (names_of c.in-Some.behind.now)
           _ _ c.loop-hart.outcome c.in_ok-one.one answers (rw (ap names_of c.in-Some.ensures.cases.0) at are) rows outcome
-          (rw (inv.scripts, inv.traces) at c.in_ok-one.ensures.ok));
-      scripts = c.in_ok-one.ensures.scripts ∙ inv.scripts;
-      traces = c.in_ok-one.ensures.traces ∙ inv.traces;
+          (rw inv.paths at c.in_ok-one.ensures.ok));
+      paths = c.in_ok-one.ensures.paths ∙ inv.paths;
     }
 
 pub returns-in_err-write_out-clause-err : goal.returns-in_err-write_out-clause-err

@@ -1,19 +1,18 @@
 use Rattle.std.proofs.Common.{◌≡◌, List, length}
 use Rattle.pmp_names.specs.HartLists.{names_of}
 use Rattle.pmp_tool.specs.Harts.{AreAnswered, HartAnswer, all_rows, worst}
-use Rattle.pmp_tool.specs.NumberedInputs.{traces_for}
+use Rattle.pmp_tool.specs.NumberedInputs.{paths_for}
 use Rattle.pmp_tool.proofs.hart_answers.answer_harts.Given as goal
 
 -- the harts so far were answered, and their rows are kept
 abbrev pub invariant-loop-hart : goal.invariant-loop-hart
 invariant-loop-hart g l = record {
   answered : (answers : List HartAnswer)
-      × AreAnswered (g.I.Inputs.scripts l.fn.inputs) (traces_for l.naming (g.I.Inputs.traces l.fn.inputs)) l.command
+      × AreAnswered (paths_for l.naming (g.I.Inputs.paths l.fn.inputs)) l.command
       l.harts
       (names_of l.rest) answers
       × (l.rows.items ≡ all_rows l.naming answers) × (l.outcome ≡ worst answers);
-  scripts : g.I.Inputs.scripts l.inputs ≡ g.I.Inputs.scripts l.fn.inputs;
-  traces : g.I.Inputs.traces l.inputs ≡ g.I.Inputs.traces l.fn.inputs;
+  paths : g.I.Inputs.paths l.inputs ≡ g.I.Inputs.paths l.fn.inputs;
 }
 
 abbrev pub decreases-loop-hart : goal.decreases-loop-hart

@@ -20,15 +20,14 @@ returns-clause-ok g c =
     IfOk-weaker c.answer_harts.result _ _ (λ outcome answers. record {
       one = _;
       others = _;
-      is = is_comparison c.args.command c.args.harts _ _ c.in-Some.first.now c.as_str-2.result.now
-          c.compares_locks.result (rw c.deref.ensures.value at c.in-Some.ensures.value) (search rules)
-          c.compares_locks.ensures refl refl;
+      is = is_comparison c.args.command c.args.has_locks c.args.harts _ _ c.in-Some.first.now c.as_str-2.result.now
+          (rw c.deref.ensures.value at c.in-Some.ensures.value) (search rules) refl refl;
       answers = answers;
     }) c.answer_harts.ensures.ok
 
 pub returns-clause-err : goal.returns-clause-err
 returns-clause-err g c =
     IfErr-weaker c.answer_harts.result _ _ (λ failure failed. cant_compare _ _ failure
-    (is_comparison c.args.command c.args.harts _ _ c.in-Some.first.now c.as_str-2.result.now c.compares_locks.result
-    (rw c.deref.ensures.value at c.in-Some.ensures.value) (search rules) c.compares_locks.ensures refl refl) failed)
+    (is_comparison c.args.command c.args.has_locks c.args.harts _ _ c.in-Some.first.now c.as_str-2.result.now
+    (rw c.deref.ensures.value at c.in-Some.ensures.value) (search rules) refl refl) failed)
     c.answer_harts.ensures.err

@@ -14,7 +14,7 @@ returns-in_err-all-clause-err g c =
     let exit = c.from_residual-in_err-all in
     let p = err_from_is_err_and exit.result exit.ensures.1 in
     let survey = c.in_ok-survey.ensures in
-    rw (p.1, p.2) (one_fails _ (rw (survey.scripts, survey.traces) at c.in_err-all.ensures.err))
+    rw (p.1, p.2) (one_fails _ (rw survey.paths at c.in_err-all.ensures.err))
 
 pub returns-then-is_empty-clause-err : goal.returns-then-is_empty-clause-err
 returns-then-is_empty-clause-err g c =
@@ -28,5 +28,5 @@ returns-in_err-make_folder-clause-err g c =
     let p = err_from_is_err_and exit.result exit.ensures.1 in
     let survey = c.in_ok-survey.ensures in
     rw (p.1, p.2) (unmade c.in_ok-survey.survey survey.ok c.in_ok-all.all.items
-    (rw (survey.scripts, survey.traces) at c.in_ok-all.ensures.ok) (search rules)
+    (rw survey.paths at c.in_ok-all.ensures.ok) (search rules)
     c.in_err-make_folder.field-0.0 c.in_err-make_folder.ensures.unmade)

@@ -5,7 +5,7 @@ use Rattle.pmp_tool.proofs.Answering.{refused_so}
 use Rattle.pmp_tool.proofs.plan_answers.answer_plan_of.Goals as goal
 
 pub returns-in_err-write_plan_of-clause-err : goal.returns-in_err-write_plan_of-clause-err
-returns-in_err-write_plan_of-clause-err g c = λ scripts traces.
+returns-in_err-write_plan_of-clause-err g c = λ paths.
     let fault = c.in_err-write_plan_of.field-0.0 in
-    refused_so _ _ scripts traces c.args.script.now request.PlanOf c.from_residual.result (unplanned fault)
+    refused_so _ _ paths c.args.script.now request.PlanOf c.from_residual.result (unplanned fault)
     c.from_residual.ensures.1 (record { fault = fault; is = refl; fails = c.in_err-write_plan_of.ensures.err })

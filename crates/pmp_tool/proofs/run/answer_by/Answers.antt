@@ -13,23 +13,23 @@ pub returns-in-None-clause-ok : goal.returns-in-None-clause-ok
 returns-in-None-clause-ok g c =
     let found = c.in_ok-find.ensures in
     IfOk-weaker c.answer_one.result _ _ (λ outcome is. inl (rw c.in-None.is at found.found, is))
-    (rw (found.scripts, found.traces) at c.answer_one.ensures.ok)
+    (rw found.paths at c.answer_one.ensures.ok)
 
 pub returns-in-None-clause-err : goal.returns-in-None-clause-err
 returns-in-None-clause-err g c =
     let found = c.in_ok-find.ensures in
     IfErr-weaker c.answer_one.result _ _ (λ failure is. of_one failure (rw c.in-None.is at found.found) is)
-    (rw (found.scripts, found.traces) at c.answer_one.ensures.err)
+    (rw found.paths at c.answer_one.ensures.err)
 
 pub returns-in-Some-clause-ok : goal.returns-in-Some-clause-ok
 returns-in-Some-clause-ok g c =
     let found = c.in_ok-find.ensures in
     IfOk-weaker c.answer_folder.result _ _ (λ outcome is. inr (c.in-Some.harts, rw c.in-Some.is at found.found, is))
-    (rw (found.scripts, found.traces) at c.answer_folder.ensures.ok)
+    (rw found.paths at c.answer_folder.ensures.ok)
 
 pub returns-in-Some-clause-err : goal.returns-in-Some-clause-err
 returns-in-Some-clause-err g c =
     let found = c.in_ok-find.ensures in
     IfErr-weaker c.answer_folder.result _ _
     (λ failure is. of_harts c.in-Some.harts failure (rw c.in-Some.is at found.found) is)
-    (rw (found.scripts, found.traces) at c.answer_folder.ensures.err)
+    (rw found.paths at c.answer_folder.ensures.err)

@@ -16,7 +16,7 @@ returns-in_err-names-clause-err g c =
     let exit = c.from_residual-in_err-names in
     let p = err_from_is_err_and exit.result exit.ensures.1 in
     rw (p.1, p.2)
-    (names_fail _ _ _ _ _ _ c.args.path.now c.in_ok-text.text.items c.in_err-names.field-0.0
+    (names_fail _ _ _ _ c.args.path.now c.in_ok-text.text.items c.in_err-names.field-0.0
     c.in_ok-text.ensures.read (rw c.deref.ensures.value at c.in_err-names.ensures.err) (Keeps-refl _))
 
 pub returns-in_err-command-clause-err : goal.returns-in_err-command-clause-err
@@ -44,8 +44,7 @@ returns-clause-ok g c =
       };
       done = done;
     })
-    (rw (forgot.scripts, forgot.traces, forgot.folders, text.ensures.scripts, text.ensures.traces, text.ensures.folders)
-    at c.answer_all.ensures.ok)
+    (rw (forgot.paths, text.ensures.paths) at c.answer_all.ensures.ok)
 
 pub returns-clause-err : goal.returns-clause-err
 returns-clause-err g c =
@@ -59,5 +58,4 @@ returns-clause-err g c =
       asks = sym (rw c.deref-2.ensures.value at c.in_ok-command.ensures);
       rows = rw c.deref-3.ensures.value at c.of-naming.ensures;
     }) fails)
-    (rw (forgot.scripts, forgot.traces, forgot.folders, text.ensures.scripts, text.ensures.traces, text.ensures.folders)
-    at c.answer_all.ensures.err)
+    (rw (forgot.paths, text.ensures.paths) at c.answer_all.ensures.err)

@@ -18,10 +18,10 @@ loop-index-init g c =
       published = ap (λ (p : PublisherToken). p.published) same ∙ c.requires.published;
       pending = ap (λ (p : PublisherToken). p.pending) same ∙ c.requires.pending;
       unit = ap (λ (p : PublisherToken). p.unit) same;
-      checkers = c.in_ok-checkers.ensures.checkers;
+      checkers = c.in_ok-checkers.ensures.ok.0;
       decided = decided_next script rows 0 c.args.publisher.now.unit.base c.args.publisher.now.published []
           c.decide_asking.new.decided.items start c.requires.base c.requires.published
-          (rw c.new-decided.ensures.items at c.in_ok-checkers.ensures.decided);
+          (rw c.new-decided.ensures.items at c.in_ok-checkers.ensures.ok.1);
     }
 
 pub publish-requires-clause-room : goal.publish-requires-clause-room
@@ -41,7 +41,7 @@ loop-index-preserved g c =
     ∙ ap (λ (b : List Event). take at.index script.batches ++ b ∷ []) c.batch.ensures.events
     ∙ sym (take_more script.batches at.index [] (omega (arith, c.batches-index-end.ensures))) in
     let unit : c.publish.new.publisher.unit ≡ c.args.publisher.now.unit = c.publish.ensures.unit ∙ at.invariant.unit in
-    let checkers = c.in_ok-checkers-2.ensures.checkers in
+    let checkers = c.in_ok-checkers-2.ensures.ok.0 in
     record {
       published = ap (λ (p : PublisherToken). p.published) same ∙ done;
       pending = ap (λ (p : PublisherToken). p.pending) same ∙ c.in_ok-publish.ensures.alone;
@@ -50,7 +50,7 @@ loop-index-preserved g c =
       decided = decided_next script rows (at.index + 1) c.publish.new.publisher.unit.base
           c.publish.new.publisher.published at.decided.items c.decide_asking-in-loop-index.new.decided.items
           at.invariant.decided (ap (λ (u : UnitId). u.base) unit ∙ c.requires.base) done
-          c.in_ok-checkers-2.ensures.decided;
+          c.in_ok-checkers-2.ensures.ok.1;
     }
 
 pub returns-clause-decided : goal.returns-clause-decided
@@ -69,10 +69,10 @@ returns-in_err-checkers-2-clause-refused g c =
     ∙ sym (take_more script.batches at.index [] (omega (arith, c.batches-index-end.ensures))) in
     let p = err_from_is_err_and c.from_residual-in_err-checkers-2.result c.from_residual-in_err-checkers-2.ensures.1 in
     rw (p.1, p.2) (stops_after script.batches c.publish.new.publisher.published c.args.rows.now (at.index + 1) done
-    c.in_err-checkers-2.field-0.0 c.in_err-checkers-2.ensures.refused c.in_err-checkers-2.ensures.asked)
+    c.in_err-checkers-2.field-0.0 c.in_err-checkers-2.ensures.err.0 c.in_err-checkers-2.ensures.err.1)
 
 pub returns-in_err-checkers-clause-refused : goal.returns-in_err-checkers-clause-refused
 returns-in_err-checkers-clause-refused g c =
     let p = err_from_is_err_and c.from_residual.result c.from_residual.ensures.1 in
     rw (p.1, p.2) (stops_after c.args.script.now.batches c.args.publisher.now.published c.args.rows.now 0
-    c.requires.published c.in_err-checkers.field-0.0 c.in_err-checkers.ensures.refused c.in_err-checkers.ensures.asked)
+    c.requires.published c.in_err-checkers.field-0.0 c.in_err-checkers.ensures.err.0 c.in_err-checkers.ensures.err.1)

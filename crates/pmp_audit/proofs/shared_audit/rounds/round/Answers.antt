@@ -27,19 +27,17 @@ merge-requires-clause-dealt g c = (
   rw c.deref.ensures.value (dealt g c),
 )
 
-pub returns-clause-checkers : goal.returns-clause-checkers
-returns-clause-checkers g c =
-    all_checkers c.args.publisher.now (length c.args.checkers.items) (c.len.result + 1) c.args.rows.now
-    c.in_ok-jobs.jobs.items c.in_ok-results.results.items c.in_ok-all.all.items c.in_ok-jobs.ensures.jobs
-    c.in_ok-all.ensures.done c.in_ok-results.ensures c.in_ok-checkers_of.field-0.items c.in_ok-checkers_of.ensures
+pub returns-clause-ok : goal.returns-clause-ok
+returns-clause-ok g c = (
+  all_checkers c.args.publisher.now (length c.args.checkers.items) (c.len.result + 1) c.args.rows.now
+      c.in_ok-jobs.jobs.items c.in_ok-results.results.items c.in_ok-all.all.items c.in_ok-jobs.ensures.jobs
+      c.in_ok-all.ensures.done c.in_ok-results.ensures c.in_ok-checkers_of.field-0.items c.in_ok-checkers_of.ensures,
+  c.in_ok-merge.ensures _ (length-map c.args.rows.now _)
+      (rw c.deref.ensures.value (dealt g (goal.at.returns-clause-ok g c).After-deref)),
+)
 
-pub returns-clause-decided : goal.returns-clause-decided
-returns-clause-decided g c =
-    c.in_ok-merge.ensures _ (length-map c.args.rows.now _)
-    (rw c.deref.ensures.value (dealt g (goal.at.returns-clause-decided g c).After-deref))
-
-pub returns-in_err-all-clause-refused : goal.returns-in_err-all-clause-refused
-returns-in_err-all-clause-refused g c =
+pub returns-in_err-all-clause-err : goal.returns-in_err-all-clause-err
+returns-in_err-all-clause-err g c =
     let why : StopsRound c.args.publisher.now.published c.in_err-all.field-0.0 = elim c.in_err-all.ensures.refused [
       | inl found ↦
           stopped c.args.publisher.now (length c.args.checkers.items) (c.len.result + 1) c.args.rows.now
@@ -49,57 +47,35 @@ returns-in_err-all-clause-refused g c =
     ] in
     search rules
 
-pub returns-in_err-jobs-clause-checkers : goal.returns-in_err-jobs-clause-checkers
-returns-in_err-jobs-clause-checkers g c = IfOk-from_err _ _ c.from_residual.ensures.0
+pub returns-in_err-jobs-clause-ok : goal.returns-in_err-jobs-clause-ok
+returns-in_err-jobs-clause-ok g c = IfOk-from_err _ _ c.from_residual.ensures.0
 
-pub returns-in_err-results-clause-checkers : goal.returns-in_err-results-clause-checkers
-returns-in_err-results-clause-checkers g c = IfOk-from_err _ _ c.from_residual-in_err-results.ensures.0
+pub returns-in_err-results-clause-ok : goal.returns-in_err-results-clause-ok
+returns-in_err-results-clause-ok g c = IfOk-from_err _ _ c.from_residual-in_err-results.ensures.0
 
-pub returns-in_err-all-clause-checkers : goal.returns-in_err-all-clause-checkers
-returns-in_err-all-clause-checkers g c = IfOk-from_err _ _ c.from_residual-in_err-all.ensures.0
+pub returns-in_err-all-clause-ok : goal.returns-in_err-all-clause-ok
+returns-in_err-all-clause-ok g c = IfOk-from_err _ _ c.from_residual-in_err-all.ensures.0
 
-pub returns-in_err-merge-clause-checkers : goal.returns-in_err-merge-clause-checkers
-returns-in_err-merge-clause-checkers g c = IfOk-from_err _ _ c.from_residual-in_err-merge.ensures.0
+pub returns-in_err-merge-clause-ok : goal.returns-in_err-merge-clause-ok
+returns-in_err-merge-clause-ok g c = IfOk-from_err _ _ c.from_residual-in_err-merge.ensures.0
 
-pub returns-in_err-checkers_of-clause-checkers : goal.returns-in_err-checkers_of-clause-checkers
-returns-in_err-checkers_of-clause-checkers g c = IfOk-from_err _ _ c.from_residual-in_err-checkers_of.ensures.0
+pub returns-in_err-checkers_of-clause-ok : goal.returns-in_err-checkers_of-clause-ok
+returns-in_err-checkers_of-clause-ok g c = IfOk-from_err _ _ c.from_residual-in_err-checkers_of.ensures.0
 
-pub returns-in_err-jobs-clause-decided : goal.returns-in_err-jobs-clause-decided
-returns-in_err-jobs-clause-decided g c =
-    let p = err_from_is_err_and c.from_residual.result c.from_residual.ensures.1 in
-    rw p.1 tt
-
-pub returns-in_err-results-clause-decided : goal.returns-in_err-results-clause-decided
-returns-in_err-results-clause-decided g c =
-    let p = err_from_is_err_and c.from_residual-in_err-results.result c.from_residual-in_err-results.ensures.1 in
-    rw p.1 tt
-
-pub returns-in_err-results-clause-refused : goal.returns-in_err-results-clause-refused
-returns-in_err-results-clause-refused g c =
-    let p = err_from_is_err_and c.from_residual-in_err-results.result c.from_residual-in_err-results.ensures.1 in
+pub returns-in_err-results-clause-err : goal.returns-in_err-results-clause-err
+returns-in_err-results-clause-err g c =
+    let exit = c.from_residual-in_err-results in
+    let p = err_from_is_err_and exit.result exit.ensures.1 in
     rw (p.1, p.2) tt
 
-pub returns-in_err-all-clause-decided : goal.returns-in_err-all-clause-decided
-returns-in_err-all-clause-decided g c =
-    let p = err_from_is_err_and c.from_residual-in_err-all.result c.from_residual-in_err-all.ensures.1 in
-    rw p.1 tt
-
-pub returns-in_err-merge-clause-decided : goal.returns-in_err-merge-clause-decided
-returns-in_err-merge-clause-decided g c =
-    let p = err_from_is_err_and c.from_residual-in_err-merge.result c.from_residual-in_err-merge.ensures.1 in
-    rw p.1 tt
-
-pub returns-in_err-merge-clause-refused : goal.returns-in_err-merge-clause-refused
-returns-in_err-merge-clause-refused g c =
-    let p = err_from_is_err_and c.from_residual-in_err-merge.result c.from_residual-in_err-merge.ensures.1 in
+pub returns-in_err-merge-clause-err : goal.returns-in_err-merge-clause-err
+returns-in_err-merge-clause-err g c =
+    let exit = c.from_residual-in_err-merge in
+    let p = err_from_is_err_and exit.result exit.ensures.1 in
     rw (p.1, p.2) tt
 
-pub returns-in_err-checkers_of-clause-decided : goal.returns-in_err-checkers_of-clause-decided
-returns-in_err-checkers_of-clause-decided g c =
-    let p = err_from_is_err_and c.from_residual-in_err-checkers_of.result c.from_residual-in_err-checkers_of.ensures.1 in
-    rw p.1 tt
-
-pub returns-in_err-checkers_of-clause-refused : goal.returns-in_err-checkers_of-clause-refused
-returns-in_err-checkers_of-clause-refused g c =
-    let p = err_from_is_err_and c.from_residual-in_err-checkers_of.result c.from_residual-in_err-checkers_of.ensures.1 in
+pub returns-in_err-checkers_of-clause-err : goal.returns-in_err-checkers_of-clause-err
+returns-in_err-checkers_of-clause-err g c =
+    let exit = c.from_residual-in_err-checkers_of in
+    let p = err_from_is_err_and exit.result exit.ensures.1 in
     rw (p.1, p.2) tt

@@ -1,7 +1,7 @@
 use Rattle.std.proofs.Common.{◌≡◌, ◌++◌, length}
 use Rattle.std.specs.Vec.Iter.{into_iter_items, into_iter_len}
 use Rattle.pmp_audit.specs.Rounds.{AreResults}
-use Rattle.pmp_audit.proofs.shared_audit.running.run_in_turn.Given as goal
+use Rattle.pmp_audit.proofs.shared_audit.running.run_jobs.Given as goal
 
 -- the jobs so far have their results
 abbrev pub invariant-loop-job : goal.invariant-loop-job

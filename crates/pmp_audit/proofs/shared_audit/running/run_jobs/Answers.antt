@@ -1,0 +1,48 @@
+use denote.Param.Send.{sendable}
+use Rattle.std.proofs.Common.{◌≡◌, ◌∙◌, ◌∷◌, [], ◌++◌, Err, IfOk, Ok, Result, length, sym, ap, arith, append_assoc}
+use Rattle.std.proofs.Crossing.{crosses}
+use Rattle.std.specs.Vec.Iter.{into_iter_items}
+use Rattle.pmp_audit.proofs.Crossing.{job_send, done_send, fault_send}
+use Rattle.pmp_audit.proofs.Merging.{one_result}
+use Rattle.pmp_audit.proofs.shared_audit.running.run_jobs.Goals as goal
+
+pub map_vec-requires-send-J : goal.map_vec-requires-send-J
+map_vec-requires-send-J g c κs within = search (job_send, sendable) depth 6
+
+pub map_vec-requires-send-X : goal.map_vec-requires-send-X
+map_vec-requires-send-X g c κs within = search (done_send, fault_send, crosses, sendable) depth 14
+
+both : {A E : Type 0} (P Q S : A → Type 0) (result : Result A E) → ((a : A) → P a → Q a → S a) → IfOk result P
+    → IfOk result Q → IfOk result S
+both P Q S (Ok a) make p q = make a p q
+both P Q S (Err e) make p q = tt
+
+pub returns-then-may_wait : goal.returns-then-may_wait
+returns-then-may_wait g c =
+    let workers : c.len.result ≡ length c.args.jobs.items =
+    omega (arith, c.len.ensures, c.args.jobs.ok.0) in
+    both _ _ _ c.map_vec.result (λ results many each. record {
+      many = omega (arith, many, results.ok.0, c.args.jobs.ok.0);
+      each = λ i d inside.
+          let gives = (each i d inside).1 in
+          (gives.job, gives.job_is, rw (← workers) gives.call.met);
+    }) c.map_vec.ensures.len c.map_vec.ensures.each
+
+pub loop-job-preserved : goal.loop-job-preserved
+loop-job-preserved g c =
+    let at = c.loop-job in
+    let x = c.in-Some.job in
+    let rest = into_iter_items c.next.new.self in
+    let steps : into_iter_items at.job-iterator ≡ x ∷ rest = c.in-Some.ensures.steps.0 in
+    let whole : at.yielded ++ (x ∷ rest) ≡ c.args.jobs.items =
+    ap (λ l. at.yielded ++ l) (sym steps) ∙ at.invariant.whole in
+    record {
+      whole = append_assoc at.yielded (x ∷ []) rest ∙ whole;
+      left =
+          let was = at.invariant.left in
+          let gone = c.in-Some.ensures.steps.1 in
+          let short = ap length steps in
+          omega arith;
+      results = rw c.in_ok-push.ensures.items (one_result c.len.result c.args.first c.args.rows.now at.yielded
+          at.results.items at.invariant.results x c.work.result c.work.ensures.result);
+    }
