@@ -197,7 +197,8 @@ folder_keeps paths command naming harts before after failure None failed two = h
 one_keeps : {paths : Paths} {command : Command} {before after : Option (List ℕ)} {naming : Option Naming}
     {failure : Failure} → OneFails paths command before after naming failure → failure_status failure ≡ 2
     → IsLong command.request ⊎ Keeps before after
-one_keeps {command = command} (at_once failure fails) two = command_keeps _ _ _ command failure fails two
+one_keeps {paths = paths} {command = command} (at_once failure fails) two =
+    command_keeps _ _ paths command failure fails two
 one_keeps (apart naming failure fails keeps) two = inr keeps
 one_keeps (unkept naming keeps) two = inr keeps
 one_keeps (unwritten naming outcome rows answers front) two = absurd cc

@@ -19,7 +19,7 @@ pub record Paths : Type 0 where
   pub folders : Folders
 
 -- nothing is known
-pub unknown : Paths
+abbrev pub unknown : Paths
 unknown = record { scripts = λ path. None; traces = λ path. None; folders = λ path. None }
 
 -- a path is a folder with these files, or no folder, as far as known

@@ -132,7 +132,7 @@ RequestSays paths script (OfLog import) (Imported note) text =
     ImportSays (paths.traces import.log.now) import note text
 RequestSays paths text (Plan plan) Listed written = Tells plan.hart plan.security plan.form text written
 RequestSays paths script PlanOf Listed text = IsPlanOfScript script text
-RequestSays _ _ _ _ _ _ = ⊥
+RequestSays _ _ _ _ _ = ⊥
 
 -- which faults an audit is refused for; several checkers may also lack a place
 abbrev pub AuditByRefuses : (checkers : Option ℕ) (script trace : List ℕ) → AuditFault → Type 0

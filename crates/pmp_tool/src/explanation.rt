@@ -18,8 +18,7 @@ use crate::fault_line::{FaultLine, Place};
 use crate::inputs::Inputs;
 use crate::kept::{Kept, KeptInput};
 use fields::{
-    is_policy_address, is_range_address, is_trace_address, names_field, plan_field, policy_field,
-    policy_place, trace_field,
+    NAMES, PLAN, POLICY, TRACE, is_policy_address, is_range_address, is_trace_address, policy_place,
 };
 use names::write_names;
 use pmp_audit::Side;
@@ -187,10 +186,10 @@ fn write_wanted(text: &mut String, line: &FaultLine) -> Result<(), AllocError> {
 /// Returns the form of the malformed field.
 fn wanted_field(line: &FaultLine) -> Option<&'static str> {
     match (line.refusal, line.place) {
-        (Refusal::BadRow, Place::TraceRow(fault)) => trace_field(fault.field?),
-        (Refusal::BadRow, Place::PolicyRow(fault)) => policy_field(fault.field?),
-        (Refusal::BadRow, Place::NamesRow(fault)) => names_field(fault.field?),
-        (Refusal::BadRow, Place::PlanRow(fault)) => plan_field(fault.field?),
+        (Refusal::BadRow, Place::TraceRow(fault)) => TRACE.get(fault.field?).copied(),
+        (Refusal::BadRow, Place::PolicyRow(fault)) => POLICY.get(fault.field?).copied(),
+        (Refusal::BadRow, Place::NamesRow(fault)) => NAMES.get(fault.field?).copied(),
+        (Refusal::BadRow, Place::PlanRow(fault)) => PLAN.get(fault.field?).copied(),
         (Refusal::BadHeader, Place::PlanRow(_)) => Some("first,last,m,su,locked,name"),
         (Refusal::PastEnd, Place::PlanRow(_)) => Some(
             "a last byte that the hart has an address for",
@@ -202,19 +201,14 @@ fn wanted_field(line: &FaultLine) -> Option<&'static str> {
 
 /// Returns the input that is at fault.
 fn input_of<'a>(line: &FaultLine, kept: &'a Kept) -> Option<&'a KeptInput> {
+    let (first, last) = (kept.inputs().first(), kept.inputs().last());
     match (line.place, line.refusal) {
-        (Place::ScriptLine(_) | Place::Script(Side::Old) | Place::LineOf(Side::Old, _), _) => {
-            kept.inputs().first()
-        }
-        (Place::PlanRow(_) | Place::PlanRows(..) | Place::PlanEntries { .. }, _) => {
-            kept.inputs().first()
-        }
-        (Place::Nowhere, Refusal::TooLong | Refusal::BadHeader | Refusal::Input) => kept
-            .inputs()
-            .last(),
-        (_, Refusal::BadFolder) | (Place::NamesRow(_), _) => kept.inputs().last(),
-        (Place::Nowhere, Refusal::BadAfter | Refusal::NoMoment) => kept.inputs().first(),
-        (Place::Nowhere, Refusal::NoHart) | (Place::LogLine(_), _) => kept.inputs().last(),
+        (Place::ScriptLine(_) | Place::Script(Side::Old) | Place::LineOf(Side::Old, _), _) => first,
+        (Place::PlanRow(_) | Place::PlanRows(..) | Place::PlanEntries { .. }, _) => first,
+        (Place::Nowhere, Refusal::BadAfter | Refusal::NoMoment) => first,
+        (Place::NamesRow(_) | Place::LogLine(_), _) | (_, Refusal::BadFolder) => last,
+        (Place::Nowhere, Refusal::TooLong | Refusal::BadHeader | Refusal::Input) => last,
+        (Place::Nowhere, Refusal::NoHart) => last,
         (Place::Nowhere | Place::Word(_), _) => None,
         _ => kept.inputs().get(1),
     }

@@ -78,9 +78,7 @@ impl Place {
             Place::Nowhere
         }
     }
-}
 
-impl Place {
     /// Returns the place of this fault of names.
     pub fn of_names(fault: NamesFault) -> Place
         ensures { result ≡ place_in_names fault }
@@ -91,9 +89,7 @@ impl Place {
             Place::Nowhere
         }
     }
-}
 
-impl Place {
     /// Returns the place of this fault of a plan.
     pub fn of_plan(fault: PlanFault) -> Place
         ensures { result ≡ place_in_plan fault }

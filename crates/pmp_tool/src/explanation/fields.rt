@@ -3,7 +3,7 @@
 use pmp_text::{COMMENT, NAME};
 
 /// The fields of a trace.
-const TRACE: [&str; 5] = [
+pub const TRACE: [&str; 5] = [
     "after: a number of publications, or with pmp 3 last, last-N or a name of the script's",
     "mode: M, S or U",
     "kind: fetch, load or store",
@@ -12,7 +12,7 @@ const TRACE: [&str; 5] = [
 ];
 
 /// The fields of a policy, in the order of the indices in its faults: a name and a comment come last.
-const POLICY: [&str; 9] = [
+pub const POLICY: [&str; 9] = [
     "from: a number of publications, or with pmp 3 last, last-N, mml, mmwp or rlb-clear",
     "to: a number of publications that isn't below from, or nothing for all, or with pmp 3 last, last-N, mml, mmwp or rlb-clear",
     "modes: one or more of the letters M, S and U, each once",
@@ -25,14 +25,14 @@ const POLICY: [&str; 9] = [
 ];
 
 /// The fields of names.
-const NAMES: [&str; 3] = [
+pub const NAMES: [&str; 3] = [
     "first: a byte address, in decimal or with 0x",
     "last: a byte address that isn't below first, in decimal or with 0x",
     "name: 1 to 64 printable bytes without blanks, quotes, + and commas, not beginning with a digit",
 ];
 
 /// The fields of a plan.
-const PLAN: [&str; 6] = [
+pub const PLAN: [&str; 6] = [
     "first: a byte address, in decimal or with 0x",
     "last: a byte address that isn't below first, in decimal or with 0x",
     "m: the rights of M-mode, as rwx, r-x or ---",
@@ -41,24 +41,9 @@ const PLAN: [&str; 6] = [
     "name: 1 to 64 printable bytes without blanks, quotes, + and commas, not beginning with a digit",
 ];
 
-/// Returns what the field of a plan with this index must be.
-pub fn plan_field(index: usize) -> Option<&'static str> {
-    PLAN.get(index).copied()
-}
-
 /// Whether a row of names or of a plan has an address at this index.
 pub fn is_range_address(index: Option<usize>) -> bool {
     matches!(index, Some(0 | 1))
-}
-
-/// Returns what the field of names with this index must be.
-pub fn names_field(index: usize) -> Option<&'static str> {
-    NAMES.get(index).copied()
-}
-
-/// Returns what the field of a trace with this index must be.
-pub fn trace_field(index: usize) -> Option<&'static str> {
-    TRACE.get(index).copied()
 }
 
 /// Whether a row of a trace has an address at this index.
@@ -80,9 +65,4 @@ pub fn policy_place(header: &[u8], index: usize) -> usize {
         _ if last == COMMENT => index.saturating_add(1),
         _ => index,
     }
-}
-
-/// Returns what the field of a policy with this index must be.
-pub fn policy_field(index: usize) -> Option<&'static str> {
-    POLICY.get(index).copied()
 }

@@ -64,12 +64,10 @@ pub returns-in-Policy-clause-err : goal.returns-in-Policy-clause-err
 returns-in-Policy-clause-err g c = rw c.in-Policy.is c.answer_policy.ensures.err
 
 pub returns-in-Diff-clause-ok : goal.returns-in-Diff-clause-ok
-returns-in-Diff-clause-ok g c = rw c.in-Diff.is
-    (c.answer_diff.ensures.ok (paths_for c.args.naming (g.I.Inputs.paths c.args.inputs.now)))
+returns-in-Diff-clause-ok g c = rw c.in-Diff.is (c.answer_diff.ensures.ok c.args.naming)
 
 pub returns-in-Diff-clause-err : goal.returns-in-Diff-clause-err
-returns-in-Diff-clause-err g c = rw c.in-Diff.is
-    (c.answer_diff.ensures.err (paths_for c.args.naming (g.I.Inputs.paths c.args.inputs.now)))
+returns-in-Diff-clause-err g c = rw c.in-Diff.is (c.answer_diff.ensures.err c.args.naming)
 
 pub returns-in-Import-clause-ok : goal.returns-in-Import-clause-ok
 returns-in-Import-clause-ok g c = rw c.in-Import.is (c.answer_import.ensures.ok c.args.script.now)
