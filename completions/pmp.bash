@@ -10,7 +10,7 @@ _pmp() {
         check) words='--explain --after --expect --names M S U fetch load store stdin'; files=yes ;;
         why) words='--explain --after --names M S U fetch load store stdin'; files=yes ;;
         audit) words='--explain --checkers --long --jobs --first-row --names stdin'; files=yes ;;
-        policy) words='--explain --each-write --names stdin'; files=yes ;;
+        policy) words='--explain --each-write --strict --names stdin'; files=yes ;;
         dump) words='--explain --after --script stdin'; files=yes ;;
         map | picture | entries) words='--explain --after --names stdin'; files=yes ;;
         writes) words='--explain stdin'; files=yes ;;

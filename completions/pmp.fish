@@ -36,6 +36,7 @@ complete -c pmp -n '__fish_seen_subcommand_from audit' -l jobs -x -d 'decide a l
 complete -c pmp -n '__fish_seen_subcommand_from audit' -l first-row -x \
     -d "give a long trace's first row the number N"
 complete -c pmp -n '__fish_seen_subcommand_from policy' -l each-write -d 'ask after each write too'
+complete -c pmp -n '__fish_seen_subcommand_from policy' -l strict -d 'refuse a policy without rows'
 complete -c pmp -n '__fish_seen_subcommand_from diff' -l old-after -x \
     -a 'last mml mmwp rlb-clear' -d 'take the first N publications of the old script'
 complete -c pmp -n '__fish_seen_subcommand_from diff' -l new-after -x \

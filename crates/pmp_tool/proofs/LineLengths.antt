@@ -79,6 +79,7 @@ note_text_fits : (one : Note) → IsNumberedNote one → length (note_text one) 
 note_text_fits note.Start small = omega arith
 note_text_fits (note.TraceRow row) small = simp length-append (omega (arith, digits_fit row small))
 note_text_fits (note.PolicyRow row) small = simp length-append (omega (arith, digits_fit row small))
+note_text_fits note.NoRows small = omega arith
 note_text_fits (note.Guessed hart entries left) small = simp length-append
     (omega (arith, digits_fit hart small.0, digits_fit entries small.1, left_fits left small.2))
 note_text_fits (note.Taken hart entries) small =

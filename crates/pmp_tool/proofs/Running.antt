@@ -20,6 +20,7 @@ use Rattle.pmp_tool.specs.declared.outcome.Outcome.{Outcome}
 use Rattle.pmp_tool.specs.declared.outcome.Outcome.TheVariants.{Told}
 use Rattle.pmp_tool.specs.declared.request.Import.{Import}
 use Rattle.pmp_tool.specs.declared.request.LongAudit.{LongAudit}
+use Rattle.pmp_tool.specs.declared.request.Policy.{Policy as AskedPolicy}
 use Rattle.pmp_tool.specs.declared.request.Request.{Request}
 use Rattle.pmp_tool.specs.declared.request.Request.TheVariants as request
 use Rattle.pmp_tool.specs.CommandLines.{AsksForPieces, MayAskForText, WordsAskFor, pmp_app}
@@ -38,7 +39,8 @@ use Rattle.pmp_names.specs.NameLists.{no_memory as no_memory_for_names}
 use Rattle.pmp_tool.specs.Failures.{failure_status, unaudited, unparsed, unparsed_as, unplanned}
 use Rattle.pmp_tool.specs.Failures.{unnamed as unnamed_so}
 use Rattle.pmp_tool.specs.Inputs.{AreBytesOf, Inputs, Paths}
-use Rattle.pmp_tool.specs.Requests.{Declines, InputFails, MomentFails, RequestFails, allowed, taken, unnamed, untaken}
+use Rattle.pmp_tool.specs.Requests.{Declines, InputFails, MomentFails, PolicyFails, RequestFails, allowed, is_empty, taken}
+use Rattle.pmp_tool.specs.Requests.{unjudged, unnamed, untaken}
 use Rattle.pmp_tool.specs.declared.harts.Harts.{Harts}
 use Rattle.pmp_tool.specs.declared.naming.Naming.{Naming}
 use Rattle.pmp_tool.specs.CommandAnswers.{CommandFails, no_script, of_script}
@@ -121,6 +123,12 @@ moment_keeps : {script : List ℕ} {argument : Argument} {when : Option When} {F
 moment_keeps (unnamed fault refuses keeps) rest = keeps
 moment_keeps (allowed failure allows fails) rest = rest fails
 
+-- nor did a policy
+policy_keeps : {before after : Option (List ℕ)} {asked : AskedPolicy} {script policy : List ℕ} {failure : Failure}
+    → PolicyFails before after asked script policy failure → failure_status failure ≡ 2 → Keeps before after
+policy_keeps (unjudged failure declines) two = declines_keep declines two
+policy_keeps (is_empty summary text strict says none keeps) two = keeps
+
 -- nor did a plan
 plan_keeps : {hart : Profile} {security : Security} {form : Form} {plan : List ℕ} {before after : Option (List ℕ)}
     {fault : AnswerFault} → PlanFails hart security form plan before after fault
@@ -151,8 +159,8 @@ module _ (before after : Option (List ℕ)) (paths : Paths) where
   request_keeps script (request.Audit audit) failure fails two =
       inr (input_keeps fails (λ trace fails. declines_keep fails two))
   request_keeps script (request.LongAudit audit) failure fails two = inl (inl (audit, refl))
-  request_keeps script (request.Policy path pace) failure fails two =
-      inr (input_keeps fails (λ policy fails. declines_keep fails two))
+  request_keeps script (request.Policy asked) failure fails two =
+      inr (input_keeps fails (λ policy fails. policy_keeps fails two))
   request_keeps script (request.Show view when) failure fails two =
       inr (moment_keeps fails (λ fails. declines_keep fails two))
   request_keeps script request.Writes failure fails two = inr (declines_keep fails two)

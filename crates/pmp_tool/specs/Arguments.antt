@@ -41,6 +41,7 @@ rule_in argument.Length = word_rule (codes "length")
 rule_in argument.Explain = flag_rule (codes "explain")
 rule_in argument.Long = flag_rule (codes "long")
 rule_in argument.EachWrite = flag_rule (codes "each-write")
+rule_in argument.Strict = flag_rule (codes "strict")
 -- `--script`, which has another place than the script's path
 rule_in argument.AsScript = record (flag_rule (codes "as-script")) { long = Some (codes "script") }
 rule_in argument.After = option_rule (codes "after")
@@ -109,7 +110,8 @@ arguments_of Audit =
     argument.Script ∷ argument.Explain ∷ argument.Trace ∷ argument.Checkers ∷ argument.Long ∷ argument.Jobs
     ∷ argument.FirstRow ∷ argument.Names ∷ []
 arguments_of Policy =
-    argument.Script ∷ argument.Explain ∷ argument.Policy ∷ argument.EachWrite ∷ argument.Names ∷ []
+    argument.Script ∷ argument.Explain ∷ argument.Policy ∷ argument.EachWrite ∷ argument.Strict
+    ∷ argument.Names ∷ []
 arguments_of Dump = argument.Script ∷ argument.Explain ∷ argument.After ∷ argument.AsScript ∷ []
 arguments_of Map = argument.Script ∷ argument.Explain ∷ argument.After ∷ argument.Names ∷ []
 arguments_of Picture = argument.Script ∷ argument.Explain ∷ argument.After ∷ argument.Names ∷ []

@@ -62,7 +62,7 @@ pub data Task : Type 0 where
   Why : AccessTask → (after : Option When) → (is_bare : Bool) → Task
   Audit : (trace : Text) (checkers : Option ℕ) → Task
   LongAudit : (trace : Text) (jobs : Option ℕ) (first : ℕ) → Task
-  Policy : (policy : Text) → Pace → Task
+  Policy : (policy : Text) → Pace → (is_strict : Bool) → Task
   Show : View → (after : Option When) → Task
   Writes : Task
   Lint : (accepted : Option Accepted) → Task
@@ -80,7 +80,7 @@ task_of (request.Check check) = Check (access_task check.access) check.after che
 task_of (request.Why why) = Why (access_task why.access) why.after why.is_bare
 task_of (request.Audit audit) = Audit audit.trace.now audit.checkers
 task_of (request.LongAudit audit) = LongAudit audit.trace.now audit.jobs audit.first
-task_of (request.Policy policy pace) = Policy policy.now pace
+task_of (request.Policy policy) = Policy policy.path.now policy.pace policy.is_strict
 task_of (request.Show view after) = Show view after
 task_of request.Writes = Writes
 task_of (request.Lint accepted) = Lint accepted
@@ -169,7 +169,7 @@ audit_in rows =
 abbrev pub policy_in : List Row → Result Task FaultLine
 policy_in rows =
     and_then (second_in argument.Policy rows) (λ policy.
-    Ok (Policy policy (if is_set argument.EachWrite rows then Events else Publications)))
+    Ok (Policy policy (if is_set argument.EachWrite rows then Events else Publications) (is_set argument.Strict rows)))
 
 -- all publications are done where the option isn't used
 abbrev pub show_in : View → List Row → Result Task FaultLine

@@ -35,7 +35,7 @@ abbrev pub takes_folder : Request → Bool
 takes_folder (request.Check check) = true
 takes_folder (request.Why why) = true
 takes_folder (request.Audit audit) = true
-takes_folder (request.Policy path pace) = true
+takes_folder (request.Policy policy) = true
 takes_folder (request.Show Runs when) = true
 takes_folder (request.Show Entries when) = true
 takes_folder request.Writes = true
@@ -52,7 +52,7 @@ new_script _ = None
 -- the second input
 abbrev pub second_input : Request → Option Text
 second_input (request.Audit audit) = Some audit.trace.now
-second_input (request.Policy path pace) = Some path.now
+second_input (request.Policy policy) = Some policy.path.now
 second_input request = new_script request
 
 -- standard input is one of the inputs

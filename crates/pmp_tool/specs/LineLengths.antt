@@ -38,6 +38,7 @@ abbrev pub IsNumberedNote : Note → Type 0
 IsNumberedNote note.Start = ⊤
 IsNumberedNote (note.TraceRow row) = row < 2 ^ 64
 IsNumberedNote (note.PolicyRow row) = row < 2 ^ 64
+IsNumberedNote note.NoRows = ⊤
 IsNumberedNote (note.Guessed hart entries left) = (hart < 2 ^ 64) × (entries < 2 ^ 64) × (left < 2 ^ 64)
 IsNumberedNote (note.Taken hart entries) = (hart < 2 ^ 64) × (entries < 2 ^ 64)
 IsNumberedNote (note.Scripts count) = count < 2 ^ 64

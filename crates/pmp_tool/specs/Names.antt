@@ -23,7 +23,7 @@ output_of (request.Show Picture when) = Some output.Picture
 output_of (request.Diff diff) = rows_by 0 1
 output_of (request.Lint accepted) = rows_by 4 5
 output_of (request.Harts has_locks) = rows_by 0 1
-output_of (request.Policy path pace) = rows_by 3 4
+output_of (request.Policy policy) = rows_by 3 4
 output_of _ = None
 
 -- names and the output, in plain values

@@ -1,6 +1,6 @@
 -- What a request outputs, and why one fails.
 use Rattle.std.specs.Prelude.{◌≡◌, ℕ, List, length, Bool, ◌&&◌, nat_le, Option, Some, None, Result, Ok, Err, true}
-use Rattle.std.specs.Prelude.{false}
+use Rattle.std.specs.Prelude.{false, ◌<◌, ⊤}
 use Rattle.std.specs.Prelude.{codes, bytes_eq, if◌then◌else◌}
 use Rattle.std.specs.Io.KnownBytes.{Appends, Keeps}
 use Rattle.std.specs.Option.{option_to_list}
@@ -22,6 +22,7 @@ use Rattle.pmp_plan.specs.declared.answer.AnswerFault.{AnswerFault}
 use Rattle.pmp_plan.specs.PlanAnswers.{PlanFails, Tells}
 use Rattle.pmp_plan.specs.PlansOf.{IsPlanOfScript, PlanOfFails}
 use Rattle.pmp_audit.specs.declared.fault.AuditFault.{AuditFault}
+use Rattle.pmp_audit.specs.declared.policy_check.PolicySummary.{PolicySummary}
 use Rattle.pmp_audit.specs.AccessCheck.{CheckSays}
 use Rattle.pmp_audit.specs.Answers.{IsRefused}
 use Rattle.pmp_audit.specs.declared.fault.Side.{Side}
@@ -41,6 +42,7 @@ use Rattle.pmp_tool.specs.declared.argument.Argument.TheVariants as argument
 use Rattle.pmp_tool.specs.declared.failure.Failure.{Failure}
 use Rattle.pmp_tool.specs.declared.failure.Failure.TheVariants.{Refused}
 use Rattle.pmp_tool.specs.declared.fault_line.FaultLine.{FaultLine}
+use Rattle.pmp_tool.specs.declared.request.Policy.{Policy as AskedPolicy}
 use Rattle.pmp_tool.specs.declared.request.Request.{Request}
 use Rattle.pmp_tool.specs.declared.request.Request.TheVariants.{Check, Why, Audit, LongAudit, Policy, Show, Writes, Lint, Diff}
 use Rattle.pmp_tool.specs.declared.request.Request.TheVariants.{Harts, Plan, PlanOf}
@@ -109,6 +111,11 @@ pub data ImportFails (known : Option (List ℕ)) (import : Import) (before after
 
 -- ---- answers
 
+-- a policy that must have a row has one
+abbrev pub HasRows : (is_strict : Bool) → PolicySummary → Type 0
+HasRows true summary = 0 < summary.rows
+HasRows false summary = ⊤
+
 -- which text belongs to which outcome of a request for this script
 abbrev pub RequestSays : (paths : Paths) (script : List ℕ) → Request → Outcome → (text : List ℕ) → Type 0
 RequestSays paths script (Check check) (Decided decision asked) text =
@@ -119,8 +126,9 @@ RequestSays paths script (Audit audit) (Audited summary) text =
     (trace : List ℕ) × AreBytesOf (paths.traces audit.trace.now) trace × AuditSays script trace summary text
 RequestSays paths script (LongAudit audit) (Audited summary) text =
     (trace : List ℕ) × AreBytesOf (paths.traces audit.trace.now) trace × LongAuditSays script audit.first trace summary text
-RequestSays paths script (Policy path pace) (Judged summary) text =
-    (policy : List ℕ) × AreBytesOf (paths.traces path.now) policy × PolicySays pace script policy summary text
+RequestSays paths script (Policy asked) (Judged summary) text =
+    (policy : List ℕ) × AreBytesOf (paths.traces asked.path.now) policy
+    × PolicySays asked.pace script policy summary text × HasRows asked.is_strict summary
 RequestSays paths script (Show view after) Listed text = ViewSays view script after tt text
 RequestSays paths script Writes (Replayed summary) text = WritesSay script summary text
 RequestSays paths script (Lint accepted) (Found told) text =
@@ -181,6 +189,14 @@ module _ (before after : Option (List ℕ)) where
     allowed : (failure : Failure) → name_allowed script argument when ≡ Ok tt → Fails failure
         → MomentFails script argument when Fails failure
 
+  -- a policy is refused, or has no row and must have one
+  pub data PolicyFails (asked : AskedPolicy) (script policy : List ℕ) : Failure → Type 0 where
+    unjudged : (failure : Failure) → Declines (PolicySays asked.pace script policy) (PolicyRefuses script policy) failure
+        → PolicyFails asked script policy failure
+    is_empty : (summary : PolicySummary) (text : List ℕ) → asked.is_strict ≡ true
+        → PolicySays asked.pace script policy summary text → summary.rows ≡ 0 → Keeps before after
+        → PolicyFails asked script policy (Refused (bad_word argument.Strict))
+
   -- a long audit stops, perhaps after whole rows
   pub record StopsInTrace (script : List ℕ) (first : ℕ) (trace : List ℕ) (failure : Failure) : Type 0 where
     pub fault : AuditFault
@@ -201,8 +217,7 @@ module _ (before after : Option (List ℕ)) where
         (λ trace. Declines (AuditSays script trace) (AuditByRefuses audit.checkers script trace))
     RequestFails (LongAudit audit) =
         InputFails CantBeOpened (paths.traces audit.trace.now) None (StopsInTrace script audit.first)
-    RequestFails (Policy path pace) =
-        TraceFails (paths.traces path.now) (λ policy. Declines (PolicySays pace script policy) (PolicyRefuses script policy))
+    RequestFails (Policy asked) = TraceFails (paths.traces asked.path.now) (PolicyFails asked script)
     RequestFails (Show view when) =
         MomentFails script argument.After when (Declines (ViewSays view script when) (FileRefuses script when))
     RequestFails Writes = Declines (WritesSay script) (WritesRefuse script)

@@ -21,9 +21,9 @@ use crate::note::Note;
 use crate::numbered_inputs::{open_trace, read_trace};
 use crate::outcome::Outcome;
 use crate::plan_answers::{answer_plan, answer_plan_of};
-use crate::request::{Audit, Check, Diff, Import, LongAudit, Request, Why};
+use crate::request::{Audit, Check, Diff, Import, LongAudit, Policy, Request, Why};
 use pmp_audit::{
-    OpenGate, PIECE, Pace, Side, View, audit, audit_long, audit_shared, check, check_policy, diff,
+    OpenGate, PIECE, Side, View, audit, audit_long, audit_shared, check, check_policy, diff,
     explain, lint, show, writes,
 };
 use pmp_import::{Given, import, survey_log};
@@ -76,9 +76,7 @@ fn answer_request<R: Threads + Wait + Sync, I: Inputs, O: Write>(
         Request::LongAudit(asked) => answer_long_audit(
             rt, alloc, script, asked, naming, inputs, out,
         ),
-        Request::Policy(path, pace) => answer_policy(
-            alloc, script, path, pace, naming, inputs, out,
-        ),
+        Request::Policy(asked) => answer_policy(alloc, script, asked, naming, inputs, out),
         Request::Show(view, after) => answer_show(alloc, script, view, after, out),
         Request::Writes => Ok(Outcome::Replayed(writes(alloc, script, out)?)),
         Request::Lint(accepted) => answer_lint(alloc, script, accepted, out),
@@ -228,20 +226,23 @@ fn answer_long_audit<R: Threads + Wait + Sync, I: Inputs, O: Write>(
 fn answer_policy<I: Inputs, O: Write>(
     alloc: Global,
     script: &[u8],
-    path: &str,
-    pace: Pace,
+    asked: Policy<'_>,
     naming: Option<Naming<'_>>,
     inputs: &mut I,
     out: &mut O,
 ) -> Result<Outcome, Failure>
     ensures ok { IfOk result (IsWritten (RequestSays (paths_for naming.entry (I.paths inputs.old)) script.now
-        (request.Policy path.entry pace)) (O.contents out.old) (O.contents out.new)) }
+        (request.Policy asked.entry)) (O.contents out.old) (O.contents out.new)) }
     ensures err { IfErr result (RequestFails (O.contents out.old) (O.contents out.new)
-        (paths_for naming.entry (I.paths inputs.old)) script.now (request.Policy path.entry pace)) }
+        (paths_for naming.entry (I.paths inputs.old)) script.now (request.Policy asked.entry)) }
     ensures paths { I.paths inputs.new ≡ I.paths inputs.old }
 {
-    let policy = read_trace(alloc, naming, inputs, path)?;
-    Ok(Outcome::Judged(check_policy(alloc, pace, script, &policy, out)?))
+    let policy = read_trace(alloc, naming, inputs, asked.path)?;
+    let summary = check_policy(alloc, asked.pace, script, &policy, out)?;
+    if asked.is_strict && summary.rows == 0 {
+        return Err(Failure::from(FaultLine::of_word(Argument::Strict)));
+    }
+    Ok(Outcome::Judged(summary))
 }
 
 /// Compares the script with a new one.

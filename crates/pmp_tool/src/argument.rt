@@ -28,6 +28,7 @@ pub enum Argument {
     Explain,
     Long,
     EachWrite,
+    Strict,
     AsScript,
     After,
     OldAfter,
@@ -82,6 +83,7 @@ impl Argument {
             Explain => "explain",
             Long => "long",
             EachWrite => "each-write",
+            Strict => "strict",
             AsScript => "as-script",
             After => "after",
             OldAfter => "old-after",
@@ -124,7 +126,7 @@ impl Argument {
             Kind => "KIND",
             Start => "START",
             Length => "LENGTH",
-            Explain | Long | EachWrite | AsScript | Locks | Bursts => "",
+            Explain | Long | EachWrite | Strict | AsScript | Locks | Bursts => "",
             Mml | Mmwp | Rlb | AsArray | Of => "",
             After | OldAfter | FirstRow | Jobs | Hart | Xlen | Entries | AddressBits => "N",
             Grain => "BYTES",
@@ -158,6 +160,7 @@ impl Argument {
             Explain => help::EXPLAIN,
             Long => help::LONG,
             EachWrite => help::EACH_WRITE,
+            Strict => help::STRICT,
             AsScript => help::AS_SCRIPT,
             After => help::AFTER,
             OldAfter => help::OLD_AFTER,
@@ -199,9 +202,17 @@ impl Argument {
         use Argument::*;
         let (id, name, help) = (self.id(), self.name(), self.help());
         match self {
-            Explain | Long | EachWrite | Locks | Bursts | Mml | Mmwp | Rlb | AsArray | Of => {
-                flag(alloc, id, help)
-            }
+            Explain
+            | Long
+            | EachWrite
+            | Strict
+            | Locks
+            | Bursts
+            | Mml
+            | Mmwp
+            | Rlb
+            | AsArray
+            | Of => { flag(alloc, id, help) }
             AsScript => flag(alloc, id, help).long("script"),
             After
             | OldAfter
@@ -249,6 +260,7 @@ impl Argument {
             Argument::Start => "a number, or with --names NAME or NAME+OFFSET",
             Argument::Accept =>
                 "the name of a finding, as mmwp-off, perhaps with a line, as mmwp-off:7",
+            Argument::Strict => "a policy that has a row",
             Argument::FirstRow => "a number from 1 on",
             Argument::Checkers => "a number from 1 to 8",
             Argument::Jobs => "a number from 1 to 64",

@@ -16,7 +16,7 @@ use crate::expected::Expected;
 use crate::fault_line::{FaultLine, Place};
 use crate::hart_words::{is_hart_said, read_hart, read_security};
 use crate::jobs::JOBS;
-use crate::request::{Audit, Check, Diff, Import, LongAudit, Plan, Request, Why};
+use crate::request::{Audit, Check, Diff, Import, LongAudit, Plan, Policy, Request, Why};
 use crate::word::{
     Smepmp, Xlen, asked, count, is_bare_word, is_set, is_stdin, is_used, needed, word,
 };
@@ -220,13 +220,17 @@ fn read_long_audit<'a>(words: &ArgMatches, trace: &'a str) -> Result<Request<'a>
 fn read_policy<'a>(words: &ArgMatches<'a>) -> Result<Request<'a>, FaultLine>
     ensures { result_map task_of result ≡ policy_in (rows_of (found_of words.now)) }
 {
-    let policy = second(words, Argument::Policy)?;
+    let path = second(words, Argument::Policy)?;
     let pace = if is_set(words, Argument::EachWrite) {
         Pace::Events
     } else {
         Pace::Publications
     };
-    Ok(Request::Policy(policy, pace))
+    Ok(Request::Policy(Policy {
+        path,
+        pace,
+        is_strict: is_set(words, Argument::Strict),
+    }))
 }
 
 /// Returns a view of the script, after all publications unless the words say when.

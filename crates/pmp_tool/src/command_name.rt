@@ -99,7 +99,7 @@ impl CommandName {
             CommandName::Audit => &[
                 Script, Explain, Trace, Checkers, Long, Jobs, FirstRow, Names,
             ],
-            CommandName::Policy => &[Script, Explain, Policy, EachWrite, Names],
+            CommandName::Policy => &[Script, Explain, Policy, EachWrite, Strict, Names],
             CommandName::Dump => &[Script, Explain, After, AsScript],
             CommandName::Map => &[Script, Explain, After, Names],
             CommandName::Picture => &[Script, Explain, After, Names],

@@ -128,6 +128,9 @@ fn write_asked_word(
     let Place::Word(argument) = line.place else {
         return Ok(false);
     };
+    if argument.name().is_empty() {
+        return Ok(false);
+    }
     let Some(word) = word_of(alloc, words, argument) else {
         return Ok(false);
     };
@@ -140,10 +143,10 @@ fn write_remedy(
     line: &FaultLine,
     has_bare_address: bool,
 ) -> Result<(), AllocError> {
-    let remedy = if has_bare_address && is_address(line.place) {
-        WITH_PREFIX
-    } else {
-        line.refusal.remedy()
+    let remedy = match line.place {
+        Place::Word(Argument::Strict) => WITH_ROWS,
+        place if has_bare_address && is_address(place) => WITH_PREFIX,
+        _ => line.refusal.remedy(),
     };
     Ok(writeln!(text, "to do: {remedy}")?)
 }
@@ -151,6 +154,9 @@ fn write_remedy(
 /// What to do about an address in the program's output form.
 const WITH_PREFIX: &str =
     "put 0x before the address: pmp writes its 14 digits without it, and reads them with it";
+
+/// What to do about a policy without rows.
+const WITH_ROWS: &str = "add rows to the policy, or leave --strict out";
 
 fn is_new(place: Place) -> bool {
     matches!(place, Place::Script(Side::New))
@@ -177,7 +183,8 @@ fn is_bare_address(word: &[u8]) -> bool {
 fn write_wanted(text: &mut String, line: &FaultLine) -> Result<(), AllocError> {
     if let (Refusal::BadWord, Place::Word(argument)) = (line.refusal, line.place) {
         let (name, form) = (argument.name(), argument.wanted());
-        return Ok(writeln!(text, "wanted: {name}: {form}")?);
+        let colon = if name.is_empty() { "" } else { ": " };
+        return Ok(writeln!(text, "wanted: {name}{colon}{form}")?);
     }
     let wanted = wanted_field(line).unwrap_or(line.refusal.wanted());
     Ok(writeln!(text, "wanted: {wanted}")?)
@@ -209,6 +216,7 @@ fn input_of<'a>(line: &FaultLine, kept: &'a Kept) -> Option<&'a KeptInput> {
         (Place::NamesRow(_) | Place::LogLine(_), _) | (_, Refusal::BadFolder) => last,
         (Place::Nowhere, Refusal::TooLong | Refusal::BadHeader | Refusal::Input) => last,
         (Place::Nowhere, Refusal::NoHart) => last,
+        (Place::Word(Argument::Strict), _) => kept.inputs().get(1),
         (Place::Nowhere | Place::Word(_), _) => None,
         _ => kept.inputs().get(1),
     }

@@ -34,7 +34,7 @@ fn takes_folder(request: Request<'_>) -> bool
     ensures { result ≡ takes_folder request.entry }
 {
     match request {
-        Request::Check(_) | Request::Why(_) | Request::Audit(_) | Request::Policy(..) => true,
+        Request::Check(_) | Request::Why(_) | Request::Audit(_) | Request::Policy(_) => true,
         Request::Show(View::Runs | View::Entries, _) | Request::Writes | Request::Diff(_) => true,
         Request::Lint(_) | Request::Harts(_) => true,
         Request::LongAudit(_) | Request::Show(..) | Request::Import(_) => false,
@@ -58,7 +58,7 @@ fn second_input<'a>(request: Request<'a>) -> Option<&'a str>
 {
     match request {
         Request::Audit(asked) => Some(asked.trace),
-        Request::Policy(path, _) => Some(path),
+        Request::Policy(asked) => Some(asked.path),
         _ => new_script(request),
     }
 }

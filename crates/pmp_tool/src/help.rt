@@ -76,6 +76,9 @@ pub const EACH_WRITE: &str =
     "Also checks after each write and reset that follows publication FROM, as a hart makes them one by one; DONE then \
     counts events";
 
+pub const STRICT: &str =
+    "Refuses a policy without rows; without it, such a policy holds, and a note says so";
+
 pub const MODE: &str = "The mode of the access: M, S or U";
 
 pub const KIND: &str = "The kind of the access: fetch, load or store";

@@ -35,7 +35,7 @@ fn output_of(request: Request<'_>) -> Option<Output>
         }
         Request::Show(View::Entries, _) => Some(Output::Rows(Columns { first: 2, last: 3 })),
         Request::Show(View::Picture, _) => Some(Output::Picture),
-        Request::Policy(..) => Some(Output::Rows(Columns { first: 3, last: 4 })),
+        Request::Policy(_) => Some(Output::Rows(Columns { first: 3, last: 4 })),
         Request::Lint(_) => Some(Output::Rows(Columns { first: 4, last: 5 })),
         _ => None,
     }

@@ -1,4 +1,4 @@
-//! The line beside an answer that reports a guess, or an address that may not be what its writer meant.
+//! The line beside an answer that reports a guess, or what may not be as its writer meant it.
 
 ghost use Rattle.std.specs.Prelude.{Some, OnErr, OnOk};
 ghost use Rattle.std.specs.Io.KnownBytes.{Appends};
@@ -13,8 +13,8 @@ use std::fmt;
 use std::fmt::Write as TextWrite;
 use std::io::Write;
 
-/// What an import has guessed, or where an address has 14 digits and no `0x`, as rows write one in hexadecimal: it is
-/// read as decimal.
+/// What an import has guessed, that a policy has no rows, or where an address has 14 digits and no `0x`, as rows write
+/// one in hexadecimal: it is read as decimal.
 #[derive(Clone, Copy)]
 pub enum Note {
     /// The word START.
@@ -23,6 +23,8 @@ pub enum Note {
     TraceRow(u64),
     /// A row of the policy, from 1, the first one.
     PolicyRow(u64),
+    /// A policy has no rows.
+    NoRows,
     /// The hart of a log that was read twice, how many entries it has, and how many writes other harts have.
     Guessed(u64, u64, u64),
     /// The hart of a log that was read once, and how many entries it has.
@@ -87,6 +89,7 @@ impl fmt::Display for Note {
             Note::Start => write!(f, "START: {AS_DECIMAL}"),
             Note::TraceRow(row) => write!(f, "trace row {row}: {AS_DECIMAL}"),
             Note::PolicyRow(row) => write!(f, "policy row {row}: {AS_DECIMAL}"),
+            Note::NoRows => write!(f, "the policy has no rows"),
             Note::Guessed(hart, entries, left) => {
                 let left = LeftOut(left);
                 write!(f, "hart {hart}, {entries} entries{left}")

@@ -73,6 +73,7 @@ impl Outcome {
             Outcome::Decided(_, asked) if asked.is_bare => Some(Note::Start),
             Outcome::Explained(_, true) => Some(Note::Start),
             Outcome::Audited(summary) => Some(Note::TraceRow(summary.bare?)),
+            Outcome::Judged(summary) if summary.rows == 0 => Some(Note::NoRows),
             Outcome::Judged(summary) => Some(Note::PolicyRow(summary.bare?)),
             Outcome::Imported(note) => Some(note),
             _ => None,

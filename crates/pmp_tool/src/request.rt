@@ -55,6 +55,17 @@ pub struct LongAudit<'a> {
     pub first: u64,
 }
 
+/// A policy whose rows are judged.
+#[derive(Clone, Copy)]
+pub struct Policy<'a> {
+    /// The path of the policy.
+    pub path: &'a str,
+    /// How often it is checked.
+    pub pace: Pace,
+    /// Whether it must have a row.
+    pub is_strict: bool,
+}
+
 /// A script made from the log of a simulator or a debugger.
 #[derive(Clone, Copy)]
 pub struct Import<'a> {
@@ -97,8 +108,7 @@ pub enum Request<'a> {
     Why(Why),
     Audit(Audit<'a>),
     LongAudit(LongAudit<'a>),
-    /// The path of the policy, and how often it checks.
-    Policy(&'a str, Pace),
+    Policy(Policy<'a>),
     /// The view, and when, unless after all publications.
     Show(View, Option<When>),
     Writes,

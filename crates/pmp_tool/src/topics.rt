@@ -431,6 +431,9 @@ a name and a comment for people: any text without control bytes (below 0x20, or
 `firmware,1,,SU,any,0x80000000,0x8007ffff,never,\"closed to all but machine mode,
 from the first publication on\"`.
 
+A policy without rows holds, and a note says that it has none. With `--strict`
+it is refused (24).
+
 `pmp policy` writes a row for each row of the policy, in order: `N,holds,,,,`,
 or `N,broken,DONE,FIRST,LAST,OWNER` with only its first breach, by time, then
 address, or `N,unmet,,,,`; then, if the header has them, `,NAME,COMMENT`.
