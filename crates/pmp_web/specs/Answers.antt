@@ -1,5 +1,5 @@
 -- What an export returns: its status, and the room of its answer.
-use Rattle.std.specs.Prelude.{◌≡◌, ◌⊎◌, ◌+◌, ◌++◌, ℕ, List, [], length, Ok, Option, Some, None, decimal, true, false}
+use Rattle.std.specs.Prelude.{◌≡◌, ◌⊎◌, ◌+◌, ℕ, List, [], length, Ok, Option, Some, None, decimal, true, false}
 use Rattle.pmp_core.specs.declared.access.Access.{Access}
 use Rattle.pmp_core.specs.declared.decision.Decision.{Decision}
 use Rattle.pmp_text.specs.Contents.{ScriptContents}
@@ -22,9 +22,6 @@ use Rattle.pmp_audit.specs.WriteList.{WritesSay}
 use Rattle.pmp_audit.specs.PolicyCheck.{VerdictRefuses, VerdictSays}
 use Rattle.pmp_audit.specs.Reasons.{ReasonsSay}
 use Rattle.pmp_audit.specs.ScriptDiff.{DiffSays}
-use Rattle.pmp_lint.specs.declared.answer_run.AnswerRun.{AnswerRun}
-use Rattle.pmp_lint.specs.Why.{AreAnswerRuns}
-use Rattle.pmp_lint.specs.WhyRows.{history_text}
 use Rattle.pmp_import.specs.declared.fault.ImportFault.{ImportFault}
 use Rattle.pmp_import.specs.declared.format.Format.{Format}
 use Rattle.pmp_import.specs.declared.options.Options.{Options}
@@ -86,12 +83,6 @@ RowsSay script text = (summary : WriteSummary) × WritesSay script summary text
 abbrev pub CheckAnswerSays : (script : List ℕ) → Access → (after : ℕ) → (text : List ℕ) → Type 0
 CheckAnswerSays script access after text = (decision : Decision)
     × CheckSays script access (Some (Number after)) decision text
-
--- a row was appended for each longest series of moments at which the access is decided alike
-pub record AnswerRowsSay (script : ScriptContents) (access : Access) (before after : List ℕ) : Type 0 where
-  pub runs : List AnswerRun
-  pub are_runs : AreAnswerRuns script access runs
-  pub appended : after ≡ before ++ history_text access runs
 
 -- the text has the row that says why it is decided so, and those of its answers at all moments
 abbrev pub WhyAnswerSays : (script : List ℕ) → Access → (after : ℕ) → (text : List ℕ) → Type 0

@@ -1,13 +1,12 @@
 //! Why an access is decided as it is, and how at all moments: as `append_reasons` of `pmp_audit` writes it, but run by
 //! run, since that one lists the runs in a vector, and the module has no heap.
 
-ghost use Rattle.std.specs.Prelude.{◌≡◌, ◌++◌, IfErr, IfOk, OnOk, Some};
-ghost use Rattle.pmp_lint.specs.WhyRows.{history_text};
+ghost use Rattle.std.specs.Prelude.{IfErr, IfOk, OnOk, Some};
 ghost use Rattle.pmp_audit.specs.Answers.{Declines, IsAppended};
 ghost use Rattle.pmp_audit.specs.AskedFile.{FileRefuses};
 ghost use Rattle.pmp_audit.specs.Reasons.{ReasonsSay};
 ghost use Rattle.pmp_text.specs.declared.moments.When.TheVariants.{Number};
-ghost use Rattle.pmp_web.specs.Answers.{AnswerRowsSay};
+ghost use Rattle.pmp_web.specs.Reasons.{AnswerRowsSay};
 
 use crate::answering::Log;
 use pmp_audit::AuditFault;
