@@ -150,7 +150,8 @@ class Reasons:
     def compare_lines(self, tab, name, script):
         """The lines that the buttons lead to."""
         said = tab.ask("[...byId('why').querySelectorAll('button')].map((it) => it.textContent)")
-        wanted = [script.split("\n")[int(it.removeprefix("line ")) - 1] for it in said]
+        lines = {f"line {number}": line for number, line in enumerate(script.split("\n"), 1)}
+        wanted = [lines.get(it) for it in said]
         self.tally.compare(f"{name}: lines", tab.ask("linesGoneTo('why')"), wanted)
 
     def compare_report(self, tab, name, said):
