@@ -160,6 +160,10 @@ class Reasons:
         self.tally.compare(f"{name}: why in the report", [it[2:] for it in report if it.startswith("- ")], marked)
         rows = [f"| {' | '.join(it)} |" for it in tab.ask("rowsOf('decisions')")]
         self.tally.has(f"{name}: answers in the report", rows and set(rows) <= set(report))
+        tab.send("Emulation.setEmulatedMedia", media="print")
+        buttons = tab.ask("[...byId('why').querySelectorAll('button')].map(isSeen)")
+        self.tally.compare(f"{name}: lines that are printed", all(buttons), True)
+        tab.send("Emulation.setEmulatedMedia", media="")
 
     def compare_names(self, tab, script):
         """The names of the entry's bytes, as `pmp entries` has them."""
