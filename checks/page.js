@@ -18,6 +18,13 @@ function answersOf(text, moments, accesses) {
     };
 }
 
+// Why each access is decided so at each moment.
+function whyOf(text, moments, accesses) {
+    const script = encodeText(text);
+    return moments.map((after) => accesses.map(([mode, kind, start, length]) =>
+        asList(page.unit.why(script, after, mode, kind, BigInt(start), BigInt(length)))));
+}
+
 const importOf = (log, format) => asList(page.unit.importLog(encodeText(log), format));
 
 // A script as one types it.
@@ -98,18 +105,28 @@ function shownAt(by, at) {
 }
 
 // The answer after each moment, from the groups of the table.
-async function decisionsShown(by, words) {
+function decisionsShown(by, words) {
     slide(by, 0);
     choose(words);
-    await page.access.finished;
     return rowsOf('decisions').flatMap(([range, ...fields]) => {
         const [from, to] = range.split(' to ').map(Number);
         return new Array((to ?? from) - from + 1).fill(fields.join(','));
     });
 }
 
-function linesGoneTo() {
-    return [...byId('writes').querySelectorAll('button')].map((button) => {
+// What is said of why an access is decided so, its answers, and which of them has the moment.
+function whyShown(by, at, words) {
+    slide(by, at);
+    choose(words);
+    return {
+        said: isSeen(byId('why')) ? [...byId('why').children].map((it) => it.textContent) : [],
+        rows: rowsOf('decisions'),
+        now: [...byId('decisions').tBodies[0].rows].findIndex((row) => row.ariaCurrent === 'true'),
+    };
+}
+
+function linesGoneTo(id) {
+    return [...byId(id).querySelectorAll('button')].map((button) => {
         button.click();
         return selected();
     });

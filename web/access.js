@@ -1,6 +1,5 @@
-// One access, and how it is decided after each publication.
+// One access: how it is decided, why, and how after each publication.
 
-const SLICE = 12; // milliseconds after which the page may answer before further decisions
 const MOST_ROWS = 500;
 
 // The value of a number as scripts have it, or null.
@@ -29,15 +28,14 @@ function sayDecision([, answer, fault, cause, entry]) {
 }
 
 class Access {
-    constructor(unit, names, words, now, table) {
+    // goTo: a function that shows a line of the script
+    constructor(unit, names, goTo) {
         this.unit = unit;
         this.names = names;
-        this.words = words;
-        this.now = now;
-        this.table = table;
-        this.turn = 0;
+        this.goTo = goTo;
+        this.words = ['mode', 'kind', 'start', 'length'].map(byId);
+        this.table = byId('decisions');
         this.groups = [];
-        this.finished = Promise.resolve();
     }
 
     get state() {
@@ -51,83 +49,64 @@ class Access {
         });
     }
 
-    // Begins to ask after 0, 1, .. publications of the boot, or single writes. What was asked before is given up.
+    // Takes the access that is asked about after 0, 1, .. publications of the boot, or single writes.
     ask(boot, by) {
-        this.turn += 1;
         this.boot = boot;
         this.by = by;
         this.access = readAccess(this.state, this.names);
-        this.answers = [];
-        this.finished = this.decideAll(this.turn);
     }
 
-    stop() {
-        this.turn += 1;
-    }
-
-    answerAt(after) {
-        const {access, boot} = this;
+    answerAt(after, call = 'check') {
+        const {access, boot, by} = this;
         if (access === null) return {status: BAD_WORD, line: 0, text: ''};
-        this.answers[after] ??= this.unit.check(
-            boot.scriptBy(this.by), after, access.mode, access.kind, access.start, access.length);
-        return this.answers[after];
+        return this.unit[call](boot.scriptBy(by), after, access.mode, access.kind, access.start, access.length);
     }
 
-    // Shows the answer at the moment.
+    // Shows the answer at the moment, why it is so, and the answers at all moments.
     show(at) {
         const answer = this.answerAt(at);
         const right = answer.status === 0;
         const note = right && isBare(this.state[2]) ? ` Start: ${AS_DECIMAL}` : '';
-        this.now.textContent = (right ? sayDecision(linesOf(answer.text, ',')[0]) : sayRefusal(answer)) + note;
-        this.now.className = right ? '' : 'wrong';
+        byId('access-now').textContent = (right ? sayDecision(linesOf(answer.text, ',')[0]) : sayRefusal(answer)) + note;
+        byId('access-now').className = right ? '' : 'wrong';
         for (const word of this.words) word.ariaInvalid = String(!right && word.tagName === 'INPUT');
-        this.at = at;
-        this.showNow();
+        const [reason, ...runs] = right ? linesOf(this.answerAt(at, 'why').text, ',') : [];
+        this.showWhy(reason);
+        this.draw(runs);
+        this.showNow(at);
     }
 
-    // Which of the rows has the moment.
-    showNow() {
-        this.groups.forEach(({from, to}, place) => {
-            this.table.tBodies[0].rows[place].ariaCurrent = String(from <= this.at && this.at <= to);
-        });
+    showWhy(reason) {
+        const sentences = reason ? sayWhy(this.names.addTo([this.withLines(reason)], 6, 7)[0], this.by) : [];
+        fillSentences(byId('why'), sentences, this.goTo);
     }
 
-    // In slices, so that the page answers meanwhile.
-    async decideAll(turn) {
-        const groups = [];
-        const last = this.boot.last(this.by);
-        this.table.setAttribute('aria-busy', 'true');
-        let until = 0;
-        for (let after = 0; after <= last && groups.length <= MOST_ROWS; after++) {
-            if (performance.now() >= until) {
-                this.table.caption.textContent = `The answer after each ${this.by}: ${after} of ${last} so far`;
-                await new Promise((go) => setTimeout(go));
-                if (turn !== this.turn) return;
-                until = performance.now() + SLICE;
-            }
-            const answer = this.answerAt(after);
-            if (answer.status !== 0) break;
-            addDecision(groups, after, linesOf(answer.text, ',')[0].slice(1));
-        }
-        this.draw(groups);
-        this.table.setAttribute('aria-busy', 'false');
+    // The row with the lines of the page's script, where single writes are asked of one made of it.
+    withLines(fields) {
+        const lineOf = (line) => (line === '' ? '' : `${this.boot.lineBy(this.by, Number(line))}`);
+        return [...fields.slice(0, 12), ...fields.slice(12).map(lineOf)];
     }
 
-    draw(groups) {
-        this.groups = groups.slice(0, MOST_ROWS);
+    draw(runs) {
+        this.groups = groupsOf(runs, this.boot.last(this.by)).slice(0, MOST_ROWS);
         const lines = this.groups.map((it) => [sayRange(it), ...it.fields]);
         fillTable(this.table, lines, (row, fields) => { row.className = fields[1]; });
         this.table.caption.textContent = `The answer after each ${this.by}`
-            + (groups.length > MOST_ROWS ? `; the first ${MOST_ROWS} changes` : '');
-        this.showNow();
+            + (runs.length > MOST_ROWS ? `; the first ${MOST_ROWS} changes` : '');
+    }
+
+    // Which of the rows has the moment.
+    showNow(at) {
+        this.groups.forEach(({from, to}, place) => {
+            this.table.tBodies[0].rows[place].ariaCurrent = String(from <= at && at <= to);
+        });
     }
 }
 
-// Answers in a row that are alike are one group.
-function addDecision(groups, after, fields) {
-    const last = groups.at(-1);
-    if (last && last.fields.join() === fields.join()) last.to = after;
-    else groups.push({from: after, to: after, fields});
+// Report rows, each with the first moment of a run of equal answers, as {from, to, fields}.
+function groupsOf(runs, last) {
+    const ends = [...runs.slice(1).map(([first]) => Number(first) - 1), last];
+    return runs.map(([first, ...fields], place) => ({from: Number(first), to: ends[place], fields}));
 }
 
 function sayRange({from, to}) {

@@ -54,6 +54,18 @@ class Boot {
         return this.singly;
     }
 
+    // The line of the script from which one comes of the script that is asked by. 0 is none.
+    lineBy(by, line) {
+        if (by === 'publication' || line === 0) return line;
+        const first = this.head.split('\n').length;
+        return this.events[(line - first) / 2].line;
+    }
+
+    get head() {
+        this.knownHead ??= headOf(this.script);
+        return this.knownHead;
+    }
+
     get moments() {
         this.known ??= new Moments(this.mseccfg(), namesIn(this.script));
         return this.known;
@@ -75,7 +87,7 @@ class Boot {
     // The script with a publish behind each event, and no other. Its head stays, and its expectations go.
     eachWrite() {
         const statements = this.events.map((event) => `${event.statement}\npublish\n`);
-        return `${headOf(this.script)}${statements.join('')}`;
+        return `${this.head}${statements.join('')}`;
     }
 }
 

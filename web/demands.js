@@ -1,6 +1,7 @@
 // The part "Policy": what a policy demands of the script, and how each of its rows is judged.
 
 const MOST_DEMANDS = 500;
+const SLICE = 12; // milliseconds after which the page may answer before further verdicts
 const PACES = {publication: 0, write: 1};
 
 // A row's demand in words, behind its name and before its comment.

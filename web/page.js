@@ -34,9 +34,8 @@ class Page {
         this.opened = Promise.resolve(); // what is being opened, until it is shown
         this.editor = new Editor(byId('script'), byId('gutter'));
         this.picture = new Picture(byId('picture'), data.darkPicture);
-        const words = ['mode', 'kind', 'start', 'length'].map(byId);
         this.names = new Names(() => this.namesChanged());
-        this.access = new Access(unit, this.names, words, byId('access-now'), byId('decisions'));
+        this.access = new Access(unit, this.names, (line) => this.editor.goTo(line));
         const changed = () => this.noteAddress();
         this.demands = new Demands(unit, this.names, data.policies, (moment) => this.goToMoment(moment), changed);
         const kept = () => (this.name === '' ? {text: this.editor.text} : {name: this.name});
@@ -186,7 +185,6 @@ class Page {
             this.demands.ask(this.boot);
             this.differences.ask(this.boot);
         } else {
-            this.access.stop();
             this.demands.ask(null);
             this.differences.ask(null);
             const wrong = {kind: 'wrong', sign: SIGNS.wrong};

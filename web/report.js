@@ -3,6 +3,7 @@
 function reportOf(page) {
     const {by, at} = page.moment;
     const parts = [
+        [byId('decisions').caption.textContent, 'decisions', rowsSeen('decisions')],
         ['Memory map', 'runs', page.runs()],
         ['Entries', 'entries', rowsSeen('entries')],
         ['Policy', 'verdicts', rowsSeen('verdicts')],
@@ -10,10 +11,11 @@ function reportOf(page) {
         ['Writes that aren’t stored as written', 'writes', rowsSeen('writes')],
     ].filter(([, , lines]) => lines.length > 0);
     const tables = parts.map(([title, id, lines]) => `\n## ${title}\n\n${markdownTable(byId(id), lines)}`);
+    const why = [...byId('why').children].map((sentence) => `- ${markdownText(sentence.textContent)}\n`).join('');
     const access = ['mode', 'kind', 'start', 'length'].map((id) => byId(id).value).join(' ');
     return `# ${markdownText(page.name || 'A script')} after ${by} ${at}\n\n`
         + `${markdownText(byId('moment').textContent)}\n\n`
-        + `${markdownText(`${access}: ${byId('access-now').textContent}`)}\n${tables.join('')}`;
+        + `${markdownText(`${access}: ${byId('access-now').textContent}`)}\n${why && `\n${why}`}${tables.join('')}`;
 }
 
 function rowsSeen(id) {

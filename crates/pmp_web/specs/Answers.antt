@@ -20,6 +20,7 @@ use Rattle.pmp_audit.specs.View.{ViewSays}
 use Rattle.pmp_audit.specs.declared.view.View.{View}
 use Rattle.pmp_audit.specs.WriteList.{WritesSay}
 use Rattle.pmp_audit.specs.PolicyCheck.{VerdictRefuses, VerdictSays}
+use Rattle.pmp_audit.specs.Reasons.{ReasonsSay}
 use Rattle.pmp_audit.specs.ScriptDiff.{DiffSays}
 use Rattle.pmp_import.specs.declared.fault.ImportFault.{ImportFault}
 use Rattle.pmp_import.specs.declared.format.Format.{Format}
@@ -83,11 +84,17 @@ abbrev pub CheckAnswerSays : (script : List ℕ) → Access → (after : ℕ) �
 CheckAnswerSays script access after text = (decision : Decision)
     × CheckSays script access (Some (Number after)) decision text
 
+-- the text has the row that says why it is decided so, and those of its answers at all moments
+abbrev pub WhyAnswerSays : (script : List ℕ) → Access → (after : ℕ) → (text : List ℕ) → Type 0
+WhyAnswerSays script access after text = (decision : Decision)
+    × ReasonsSay script access (Some (Number after)) decision text
+
 -- the numbers name an access, which is answered, or they name none
-abbrev pub AnswersCheck : (script : List ℕ) → (after mode kind start length status : ℕ) → Answer → Type 0
-AnswersCheck script after mode kind start length status answer =
+abbrev pub AnswersAccess : (Says : (script : List ℕ) → Access → (after : ℕ) → (text : List ℕ) → Type 0)
+    → (script : List ℕ) → (after mode kind start length status : ℕ) → Answer → Type 0
+AnswersAccess Says script after mode kind start length status answer =
     ((access : Access) × IsNamed access mode kind start length
-    × Answers (CheckAnswerSays script access after) (FileRefuses script (Some (Number after))) status answer)
+    × Answers (Says script access after) (FileRefuses script (Some (Number after))) status answer)
     ⊎ ((refusal : Refusal) × NamesNone mode kind start length refusal × IsUnasked refusal status answer)
 
 -- the view that the number names is shown, or it names none

@@ -13,13 +13,14 @@ ghost use Rattle.std.specs.Prelude.{Some};
 ghost use Rattle.pmp_audit.specs.WriteList.{WritesRefuse};
 ghost use Rattle.pmp_text.specs.declared.moments.When.TheVariants.{Number};
 ghost use Rattle.pmp_audit.specs.ScriptDiff.{DiffRefuses};
-ghost use Rattle.pmp_web.specs.Answers.{Answers, AnswersCheck, AnswersImport, AnswersVerdict, AnswersView};
-ghost use Rattle.pmp_web.specs.Answers.{CountSays, DiffAnswerSays, RowsSay};
+ghost use Rattle.pmp_web.specs.Answers.{Answers, AnswersAccess, AnswersImport, AnswersVerdict, AnswersView};
+ghost use Rattle.pmp_web.specs.Answers.{CheckAnswerSays, CountSays, DiffAnswerSays, RowsSay, WhyAnswerSays};
 ghost use Rattle.pmp_web.specs.Demand.{question_of};
 ghost use Rattle.pmp_web.specs.Request.{format_of, view_of};
 ghost use Rattle.pmp_web.specs.Rooms.{script_in, text_in};
 
 mod answering;
+mod reasons;
 mod request;
 mod rooms;
 
@@ -29,6 +30,7 @@ use pmp_audit::{
 };
 use pmp_import::append_import;
 use pmp_text::{Refusal, When};
+use reasons::append_reasons;
 pub use rooms::{Answer, Demand, Script};
 
 /// Writes how many publications the script has, in decimal.
@@ -88,7 +90,7 @@ pub extern "C" fn tilvenka_page_check(
     length: u64,
     answer: &mut Answer,
 ) -> u32
-    ensures { AnswersCheck (script_in script.now) after mode kind start length result answer.new }
+    ensures { AnswersAccess CheckAnswerSays (script_in script.now) after mode kind start length result answer.new }
 {
     match request::access_of(mode, kind, start, length) {
         Ok(access) => tell!(
@@ -100,6 +102,29 @@ pub extern "C" fn tilvenka_page_check(
                 Some(When::Number(after)),
                 answer
             )
+        ),
+        Err(refusal) => refuse_question(answer, refusal),
+    }
+}
+
+/// Decides one access after the given number of publications, and writes why, and its answers at all moments, like
+/// `pmp why`. Numbers that name no access are refused as by `tilvenka_page_check`.
+#[unsafe(no_mangle)]
+pub extern "C" fn tilvenka_page_why(
+    script: &Script,
+    after: u64,
+    mode: u32,
+    kind: u32,
+    start: u64,
+    length: u64,
+    answer: &mut Answer,
+) -> u32
+    ensures { AnswersAccess WhyAnswerSays (script_in script.now) after mode kind start length result answer.new }
+{
+    match request::access_of(mode, kind, start, length) {
+        Ok(access) => tell!(
+            answer,
+            append_reasons(script.text(), &access, after, answer)
         ),
         Err(refusal) => refuse_question(answer, refusal),
     }
