@@ -1,18 +1,16 @@
 //! Why an access is decided as it is after some of a script's publications, and the findings in a script.
 
-ghost use Rattle.std.specs.Prelude.{◌≡◌, ◌≤◌, ◌++◌, IfErr, IfOk, OnErr, OnOk, length};
+ghost use Rattle.std.specs.Prelude.{◌≡◌, ◌≤◌, IfErr, IfOk, OnErr, length};
 ghost use Rattle.pmp_audit.specs.Answers.{Declines, IsAppended, IsRefused, IsWritten};
 ghost use Rattle.pmp_audit.specs.AskedFile.{FileRefuses};
-ghost use Rattle.pmp_audit.specs.Reasons.{FindingsSay, IsReasonText, ReasonsSay, reasons_text};
+ghost use Rattle.pmp_audit.specs.Reasons.{FindingsSay, IsReasonText, ReasonsSay};
 ghost use Rattle.pmp_audit.specs.WriteList.{WritesRefuse};
 
 use crate::answer::write_answer;
 use crate::asked_count::asked_count;
 use crate::fault::AuditFault;
 use pmp_core::{Access, Decision};
-use pmp_lint::{
-    Accepted, AnswerRun, Because, append_history, append_lint, append_why, history, why,
-};
+use pmp_lint::{Accepted, append_history, append_lint, append_why, why};
 use pmp_text::{EventLog, GrowingLog, NoMemory, Script, Sink, When, read_script};
 use std::alloc::Global;
 use std::io::Write;
@@ -36,14 +34,13 @@ pub fn explain<W: Write>(
 {
     let mut text = Vec::new(alloc);
     let mut log = GrowingLog::new(alloc);
-    let told = append_reasons(alloc, &mut log, script, access, after, &mut text);
+    let told = append_reasons(&mut log, script, access, after, &mut text);
     write_answer(writer, &text, told)
 }
 
 /// Appends the rows that `explain` writes. The log keeps the script's events; `Memory` means that there is no room for
 /// them there, or none for the rows.
 pub fn append_reasons<L: EventLog, S: Sink>(
-    alloc: Global,
     log: &mut L,
     script: &[u8],
     access: &Access,
@@ -57,12 +54,11 @@ pub fn append_reasons<L: EventLog, S: Sink>(
 {
     let script = read_script(log, script)?;
     let done = asked_count(&script, after)?;
-    Ok(append_reason(alloc, &script, done, access, out)?)
+    Ok(append_reason(&script, done, access, out)?)
 }
 
 /// Decides the access once so many publications are done, and appends why it is decided so.
 fn append_reason<S: Sink>(
-    alloc: Global,
     script: &Script,
     done: u64,
     access: &Access,
@@ -73,28 +69,15 @@ fn append_reason<S: Sink>(
         (S.text out.old) (S.text out.new)) }
     ensures kept { OnErr result (S.text out.new ≡ S.text out.old) }
 {
-    let reason = why(script, done, access);
-    let runs = history(alloc, script, access)?;
-    write_reasons(out, access, &reason, &runs)?;
-    Ok(reason.decision)
-}
-
-fn write_reasons<S: Sink>(
-    out: &mut S,
-    access: &Access,
-    reason: &Because,
-    runs: &[AnswerRun],
-) -> Result<(), NoMemory>
-    ensures ok { OnOk result (S.text out.new ≡ S.text out.old ++ reasons_text access.now reason.now runs.now) }
-    ensures err { OnErr result (S.text out.new ≡ S.text out.old) }
-{
     let before = out.position();
-    append_why(out, access, reason)?;
-    let written = append_history(out, access, runs);
+    let reason = why(script, done, access);
+    append_why(out, access, &reason)?;
+    let written = append_history(out, script, access);
     if written.is_err() {
         out.go_back(before);
     }
-    written
+    written?;
+    Ok(reason.decision)
 }
 
 /// Writes a row for each finding of the script that isn't accepted, lint by lint, and returns their number.

@@ -1,15 +1,17 @@
 -- The text of why an access is decided as it is, and of its decisions at every moment.
-use Rattle.std.specs.Prelude.{ℕ, Bool, List, [], ◌∷◌, ◌++◌, Option, Some, None, codes, decimal, if◌then◌else◌}
+use Rattle.std.specs.Prelude.{◌≡◌, ℕ, Bool, List, [], ◌∷◌, ◌++◌, Option, Some, None, codes, decimal, if◌then◌else◌}
 use Rattle.std.specs.List.{flat_map}
 use Rattle.pmp_core.specs.declared.access.Access.{Access}
 use Rattle.pmp_core.specs.FaultCode.{fault_of}
 use Rattle.pmp_text.specs.EntryRows.{lock_text, matching_text}
+use Rattle.pmp_text.specs.Contents.{ScriptContents}
 use Rattle.pmp_text.specs.Reports.{answer_text, cause_text, entry_of, fields_after, optional_text, report_row}
 use Rattle.pmp_lint.specs.declared.answer_run.AnswerRun.{AnswerRun}
 use Rattle.pmp_lint.specs.declared.decider.Decider.{Decider}
 use Rattle.pmp_lint.specs.declared.decider.RuleBits.{RuleBits}
 use Rattle.pmp_lint.specs.declared.because.Because.{Because}
 use Rattle.pmp_lint.specs.Findings.{bytes_text}
+use Rattle.pmp_lint.specs.Why.{AreAnswerRuns}
 
 abbrev pub bit_text : Bool → List ℕ
 bit_text bit = if bit then codes "1" else codes "0"
@@ -51,3 +53,9 @@ why_row access why =
 -- a report row for each run, numbered by its first moment
 abbrev pub history_text : Access → List AnswerRun → List ℕ
 history_text access runs = flat_map (λ run. report_row run.first access run.decision) runs
+
+-- a row was appended for each longest series of moments at which the access is decided alike
+pub record HistorySays (script : ScriptContents) (access : Access) (before after : List ℕ) : Type 0 where
+  pub runs : List AnswerRun
+  pub are_runs : AreAnswerRuns script access runs
+  pub appended : after ≡ before ++ history_text access runs

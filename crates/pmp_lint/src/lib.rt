@@ -21,7 +21,7 @@ mod trail;
 mod write_and_execute;
 
 pub use accepted::Accepted;
-pub use answer_run::{AnswerRun, append_history, history};
+pub use answer_run::{AnswerRun, append_history};
 pub use because::{Because, why};
 pub use because_row::append_why;
 pub use decider::{Decider, RuleBits};

@@ -3,5 +3,3 @@ pub mod Rooms
 pub mod Request
 pub mod Demand
 pub mod Answers
--- The rest, used only by private contracts.
-pub mod Reasons

@@ -20,17 +20,16 @@ ghost use Rattle.pmp_web.specs.Request.{format_of, view_of};
 ghost use Rattle.pmp_web.specs.Rooms.{script_in, text_in};
 
 mod answering;
-mod reasons;
 mod request;
 mod rooms;
 
 use answering::{ANSWERED, GUESSED, Log, append_count, refuse, refuse_log, refuse_question, tell};
 use pmp_audit::{
-    AskedChanges, append_check, append_diff, append_verdict, append_view, append_writes,
+    AskedChanges, append_check, append_diff, append_reasons, append_verdict, append_view,
+    append_writes,
 };
 use pmp_import::append_import;
 use pmp_text::{Refusal, When};
-use reasons::append_reasons;
 pub use rooms::{Answer, Demand, Script};
 
 /// Writes how many publications the script has, in decimal.
@@ -124,7 +123,13 @@ pub extern "C" fn tilvenka_page_why(
     match request::access_of(mode, kind, start, length) {
         Ok(access) => tell!(
             answer,
-            append_reasons(script.text(), &access, after, answer)
+            append_reasons(
+                &mut Log::new(),
+                script.text(),
+                &access,
+                Some(When::Number(after)),
+                answer
+            )
         ),
         Err(refusal) => refuse_question(answer, refusal),
     }
