@@ -8,7 +8,7 @@ pmp=${PMP:-pmp}
 work=$(mktemp -d) || exit 2
 trap 'rm -rf "$work"' EXIT
 
-"$pmp" policy --each-write "$1" "$2" >"$work/verdicts"
+"$pmp" policy --strict --each-write "$1" "$2" >"$work/verdicts"
 case $? in
     0) failed=0 ;;
     1)
