@@ -48,7 +48,7 @@ topic_app name = let app = new_app name in record app {
   };
 }
 
--- and with a help topic for each format
+-- and with the help topics
 abbrev pub pmp_app : App
 pmp_app =
     let script = with_command commands_app (topic_app (codes "script")) in

@@ -16,5 +16,9 @@ abbrev pub traces_for : Option Naming → (traces : Inputs) → Inputs
 traces_for None traces = traces
 traces_for (Some naming) traces = λ path. option_map (numbered_within (map named naming.names.now)) (traces path)
 
+-- the same with other traces
+abbrev pub with_traces : (traces : Inputs) → Paths → Paths
+with_traces traces paths = record paths { traces = traces }
+
 abbrev pub paths_for : Option Naming → Paths → Paths
-paths_for naming paths = record paths { traces = traces_for naming paths.traces }
+paths_for naming paths = with_traces (traces_for naming paths.traces) paths

@@ -1,13 +1,12 @@
 //! The program's answers to commands.
 
 ghost use Rattle.std.specs.Prelude.{◌≡◌, IfOk, IfErr, List, ℕ, Option};
-ghost use Rattle.pmp_tool.specs.Inputs.{AreBytesOf, Paths};
+ghost use Rattle.pmp_tool.specs.Inputs.{AreBytesOf, Inputs, Paths};
 ghost use Rattle.pmp_audit.specs.Answers.{IsWritten};
 ghost use Rattle.pmp_tool.specs.Requests.{ImportFails, IsGiven, IsUnread, RequestFails, RequestSays, has_names};
 ghost use Rattle.pmp_tool.specs.Requests.{name_allowed, old_side};
 ghost use Rattle.pmp_tool.specs.CommandAnswers.{CommandAnswers, CommandFails, IsScriptOf};
-ghost use Rattle.pmp_tool.specs.NumberedInputs.{paths_for};
-ghost use Rattle.pmp_tool.specs.declared.naming.Naming.{Naming};
+ghost use Rattle.pmp_tool.specs.NumberedInputs.{paths_for, with_traces};
 ghost use Rattle.pmp_tool.specs.declared.request.Request.TheVariants as request;
 
 use crate::argument::Argument;
@@ -253,10 +252,10 @@ fn answer_diff<I: Inputs, O: Write>(
     inputs: &mut I,
     out: &mut O,
 ) -> Result<Outcome, Failure>
-    ensures ok { (naming : Option Naming) → IfOk result (IsWritten (RequestSays (paths_for naming (I.paths inputs.old))
+    ensures ok { (traces : Inputs) → IfOk result (IsWritten (RequestSays (with_traces traces (I.paths inputs.old))
         script.now (request.Diff asked.entry)) (O.contents out.old) (O.contents out.new)) }
-    ensures err { (naming : Option Naming) → IfErr result (RequestFails (O.contents out.old) (O.contents out.new)
-        (paths_for naming (I.paths inputs.old)) script.now (request.Diff asked.entry)) }
+    ensures err { (traces : Inputs) → IfErr result (RequestFails (O.contents out.old) (O.contents out.new)
+        (with_traces traces (I.paths inputs.old)) script.now (request.Diff asked.entry)) }
     ensures paths { I.paths inputs.new ≡ I.paths inputs.old }
 {
     let (old_after, new_after) = (asked.old_after, asked.new_after);

@@ -82,9 +82,8 @@ If SCRIPT, OLD or NEW is a folder, `check`, `why`, `audit`, `policy`, `map`,
 `entries`, `writes`, `lint` and `diff` run for each hart: each file in it whose
 name ends with `.pmp` and doesn't begin with a dot. Each line begins with that
 name and a comma. The status is 0 if it is 0 for each hart. `pmp harts` writes
-where harts of a folder differ from the first one: rows as `pmp help diff`
-describes, each after the other hart's name, and with `--locks` those of locks
-too.
+where harts of a folder differ from the first one: the rows of `diff`, each
+after the other hart's name, and with `--locks` those of locks too.
 
 A number is 1 to 20 decimal digits, or `0x` and 1 to 16 hexadecimal digits,
 below 2^64. Without `0x` it is decimal.
@@ -761,9 +760,8 @@ If SCRIPT, OLD or NEW is a folder, `check`, `why`, `audit`, `policy`, `map`,
 `entries`, `writes`, `lint` and `diff` run for each hart: each file in it whose
 name ends with `.pmp` and doesn't begin with a dot. Each line begins with that
 name and a comma. The status is 0 if it is 0 for each hart. `pmp harts` writes
-where harts of a folder differ from the first one: rows as `pmp help diff`
-describes, each after the other hart's name, and with `--locks` those of locks
-too.
+where harts of a folder differ from the first one: the rows of `diff`, each
+after the other hart's name, and with `--locks` those of locks too.
 
 Exit status:
   0  there is no row to write

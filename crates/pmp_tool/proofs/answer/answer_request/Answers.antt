@@ -1,7 +1,7 @@
 use Rattle.pmp_tool.specs.declared.request.Request.TheVariants as request
 use Rattle.pmp_tool.specs.Failures.{unaudited}
 use Rattle.pmp_tool.proofs.Answering.{declined, refused_so}
-use Rattle.pmp_tool.specs.NumberedInputs.{paths_for}
+use Rattle.pmp_tool.specs.NumberedInputs.{paths_for, traces_for}
 use Rattle.pmp_tool.proofs.answer.answer_request.Goals as goal
 
 pub returns-in-Check-clause-ok : goal.returns-in-Check-clause-ok
@@ -64,10 +64,12 @@ pub returns-in-Policy-clause-err : goal.returns-in-Policy-clause-err
 returns-in-Policy-clause-err g c = rw c.in-Policy.is c.answer_policy.ensures.err
 
 pub returns-in-Diff-clause-ok : goal.returns-in-Diff-clause-ok
-returns-in-Diff-clause-ok g c = rw c.in-Diff.is (c.answer_diff.ensures.ok c.args.naming)
+returns-in-Diff-clause-ok g c = rw c.in-Diff.is
+    (c.answer_diff.ensures.ok (traces_for c.args.naming (g.I.Inputs.paths c.args.inputs.now).traces))
 
 pub returns-in-Diff-clause-err : goal.returns-in-Diff-clause-err
-returns-in-Diff-clause-err g c = rw c.in-Diff.is (c.answer_diff.ensures.err c.args.naming)
+returns-in-Diff-clause-err g c = rw c.in-Diff.is
+    (c.answer_diff.ensures.err (traces_for c.args.naming (g.I.Inputs.paths c.args.inputs.now).traces))
 
 pub returns-in-Import-clause-ok : goal.returns-in-Import-clause-ok
 returns-in-Import-clause-ok g c = rw c.in-Import.is (c.answer_import.ensures.ok c.args.script.now)
