@@ -1,14 +1,14 @@
 #!/bin/sh
 # check.sh SCRIPT POLICY BEFORE: ends with 0 where each row of the policy holds after each write of the script, and it
 # lets the modes do with each byte what the script BEFORE does, and locks it alike; with 1 where that isn't so; with 2
-# where there is no answer. It takes the pmp on the path, or the one that PMP names. In GitHub Actions each finding is
+# where there is no answer, or the policy has no rows. It takes the pmp on the path, or the one that PMP names. In GitHub Actions each finding is
 # an annotation, of the policy's line or of the script.
 [ $# = 3 ] || { echo 'usage: check.sh SCRIPT POLICY BEFORE' >&2; exit 2; }
 pmp=${PMP:-pmp}
 work=$(mktemp -d) || exit 2
 trap 'rm -rf "$work"' EXIT
 
-"$pmp" policy --strict --each-write "$1" "$2" >"$work/verdicts"
+"$pmp" policy --explain --strict --each-write "$1" "$2" >"$work/verdicts"
 case $? in
     0) failed=0 ;;
     1)
