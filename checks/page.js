@@ -117,10 +117,11 @@ function decisionsShown(by, words) {
     });
 }
 
-// What is said of why an access is decided so, its answers, which of them has the moment, and the lines it leads to.
+// What is said of why an access is decided so, its answers, which of them has the moment, and the lines that it leads
+// to, where the slider moves after the access is chosen.
 function whyShown(by, at, words) {
-    slide(by, at);
     choose(words);
+    slide(by, at);
     return {
         said: isSeen(byId('why')) ? [...byId('why').children].map((it) => it.textContent) : [],
         rows: rowsOf('decisions'),

@@ -67,7 +67,7 @@ class Access {
     show(at) {
         const answer = this.answerAt(at);
         const right = answer.status === 0;
-        const end = answer.text.indexOf('\n') + 1;
+        const end = answer.text.indexOf('\n') + 1; // of the row before the answers at all moments
         const [reason] = linesOf(answer.text.slice(0, end), ',');
         const note = right && isBare(this.state[2]) ? ` Start: ${AS_DECIMAL}` : '';
         byId('access-now').textContent = (right ? sayDecision(reason) : sayRefusal(answer)) + note;
