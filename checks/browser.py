@@ -110,7 +110,7 @@ class Tab:
         self.wait("Page.loadEventFired", loads + 1)
         self.send("Page.navigate", url=url)
         self.wait("Page.loadEventFired", loads + 2)
-        self.ask("(async () => { await page?.opened; await page?.access.finished; })()")
+        self.ask("page?.opened")
 
     def ask(self, expression):
         """The value of an expression of JavaScript, of what it promises."""

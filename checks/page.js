@@ -2,14 +2,17 @@
 
 const asList = ({status, line, text}) => [status, line, text];
 
+// The fields that the first row of `pmp why` has as a report row has them, ANSWER to ENTRY, in place of the text.
+const decisionOf = ({status, line, text}) => [status, line, text.split('\n')[0].split(',').slice(1, 5).join(',')];
+
 function answersOf(text, moments, accesses) {
     const script = encodeText(text);
     const unit = page.unit;
     const at = (after) => {
         const views = ['map', 'picture', 'entries', 'registers'].map((it) => [it, asList(unit[it](script, after))]);
-        const checks = accesses.map(([mode, kind, start, length]) =>
-            asList(unit.check(script, after, mode, kind, BigInt(start), BigInt(length))));
-        return {...Object.fromEntries(views), checks};
+        const decisions = accesses.map(([mode, kind, start, length]) =>
+            decisionOf(unit.why(script, after, mode, kind, BigInt(start), BigInt(length))));
+        return {...Object.fromEntries(views), decisions};
     };
     return {
         publications: asList(unit.publications(script)),
@@ -114,14 +117,16 @@ function decisionsShown(by, words) {
     });
 }
 
-// What is said of why an access is decided so, its answers, and which of them has the moment.
+// What is said of why an access is decided so, its answers, which of them has the moment, and the lines that it leads
+// to, where the slider moves after the access is chosen.
 function whyShown(by, at, words) {
-    slide(by, at);
     choose(words);
+    slide(by, at);
     return {
         said: isSeen(byId('why')) ? [...byId('why').children].map((it) => it.textContent) : [],
         rows: rowsOf('decisions'),
         now: [...byId('decisions').tBodies[0].rows].findIndex((row) => row.ariaCurrent === 'true'),
+        lines: linesGoneTo('why'),
     };
 }
 
@@ -269,9 +274,9 @@ function namesDrawn() {
     };
 }
 
-function accessAnswer(words) {
+function accessDecision(words) {
     choose(words);
-    return asList(page.access.answerAt(page.moment.at));
+    return decisionOf(page.access.answerAt(page.moment.at));
 }
 
 // The page for people.

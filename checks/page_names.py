@@ -130,9 +130,10 @@ class Names:
         for start in STARTS:
             for access in (["U", "load", start, "8"], ["M", "store", start, "4"]):
                 status, _, text = self.run("check", script, "stdin", *access)
-                self.tally.compare(f"{access} with names", tab.call("accessAnswer", access), [status, 0, text])
+                wanted = [status, 0, text.strip()[2:]]
+                self.tally.compare(f"{access} with names", tab.call("accessDecision", access), wanted)
         self.give(tab, "")
-        refused = tab.call("accessAnswer", ["U", "load", "firmware", "8"])
+        refused = tab.call("accessDecision", ["U", "load", "firmware", "8"])
         self.tally.compare("a name without names", refused, [24, 0, ""])
 
     def compare_faults(self, tab):

@@ -31,10 +31,13 @@ write mseccfg 0
 publish frozen
 write mseccfg 3
 reset
-write pmpaddr7 0x20000001
-write pmpcfg0 0x9700000000000000
+write pmpaddr6 0x20000000
+write pmpaddr7 0x20004000
+write pmpcfg0 0x8f00000000000000
 publish
 """
+# The scripts whose reasons are shown, each with the most lines of it that one reason leads to.
+SHOWN = {"smepmp-boot": 2, "opensbi-1.1-virt": 2, "registers": 0, "a made script": 3}
 NAMES = "first,last,name\n0x0,0xfff,low\n0x80000000,0x8000ffff,firmware\n0x80010000,0x80010003,<i>&amp;\n"
 PLACES = (("M", "load", 0x10, 4), ("U", "store", 0x4000, 4), ("S", "fetch", 0x80000010, 8), ("U", "load", 0xFFE, 4),
           ("S", "load", 0x80010000, 8), ("M", "store", 0x80001000, 8))
@@ -85,7 +88,7 @@ class Reasons:
             self.compare_answers(tab, name, script)
         for place, words in WORDS.items():
             self.tally.compare(f"the words of field {place}", self.words[place], words)
-        for name in ("smepmp-boot", "opensbi-1.1-virt", "registers", "a made script"):
+        for name in SHOWN:
             self.compare_shown(tab, name, made[name])
         self.compare_names(tab, boots["smepmp-boot"])
         self.compare_refused(tab)
@@ -120,23 +123,34 @@ class Reasons:
     # What the page shows.
 
     def compare_shown(self, tab, name, script):
+        """Each moment that the sliders lead to, and the report of the first one with the most lines."""
         singly, events = self.write_singly(script)
         tab.call("type", script)
-        writes = self.run("writes", script, "stdin").stdout.decode().splitlines()
-        lines = [it.split(",")[2] for it in writes if it[0] != ","]
-        first = singly.count("\n") - 2 * events + 1
-        own = {"": "", "0": "0", **{str(first + 2 * place): line for place, line in enumerate(lines)}}
+        own = self.own_lines(script, singly, events)
         last = len(re.findall(r"^publish\b", script, re.MULTILINE))
+        led = {}
         for by, text, count in (("publication", script, last), ("write", singly, events)):
             for access, at in itertools.product(PLACES, range(count + 1)):
                 row, *runs = [it.split(",") for it in self.answer(text, at, access)[2].splitlines()]
-                wanted = sentences(row if by == "publication" else row[:-3] + [own[it] for it in row[-3:]], by)
-                shown = tab.call("whyShown", by, at, [*access[:2], hex(access[2]), str(access[3])])
+                row = row if by == "publication" else row[:-3] + [own[it] for it in row[-3:]]
+                asked = (by, at, [*access[:2], hex(access[2]), str(access[3])])
+                shown = tab.call("whyShown", *asked)
                 place = f"{name} at {by} {at}: {access}"
-                self.tally.compare(f"{place}: why", shown["said"], wanted)
+                self.tally.compare(f"{place}: why", shown["said"], sentences(row, by))
                 self.tally.compare(f"{place}: answers", *self.runs_of(shown, runs, count, at))
-            self.compare_lines(tab, f"{name} by {by}", script)
-        self.compare_report(tab, name, wanted)
+                lines = [int(it) for it in row[-3:] if it not in ("", "0")]
+                self.tally.compare(f"{place}: lines", shown["lines"], [script.split("\n")[it - 1] for it in lines])
+                led.setdefault(len(lines), (asked, sentences(row, by)))
+        most = max(led)
+        self.tally.compare(f"{name}: the most lines", most, SHOWN[name])
+        self.compare_report(tab, name, *led[most], most)
+
+    def own_lines(self, script, singly, events):
+        """The script's line for each line of the script of its single writes that an entry's row may have."""
+        writes = self.run("writes", script, "stdin").stdout.decode().splitlines()
+        lines = [it.split(",")[2] for it in writes if it[0] != ","]
+        first = singly.count("\n") - 2 * events + 1
+        return {"": "", "0": "0", **{str(first + 2 * place): line for place, line in enumerate(lines)}}
 
     def runs_of(self, shown, runs, last, at):
         """The rows of the table, with the one that has the moment, and those of the program."""
@@ -147,14 +161,8 @@ class Reasons:
         now = [first <= at <= end for first, end in zip(firsts, ends)]
         return [shown["rows"], shown["now"]], [wanted, now.index(True)]
 
-    def compare_lines(self, tab, name, script):
-        """The lines that the buttons lead to."""
-        said = tab.ask("[...byId('why').querySelectorAll('button')].map((it) => it.textContent)")
-        lines = {f"line {number}": line for number, line in enumerate(script.split("\n"), 1)}
-        wanted = [lines.get(it) for it in said]
-        self.tally.compare(f"{name}: lines", tab.ask("linesGoneTo('why')"), wanted)
-
-    def compare_report(self, tab, name, said):
+    def compare_report(self, tab, name, asked, said, lines):
+        tab.call("whyShown", *asked)
         report = tab.ask("reportOf(page)").splitlines()
         marked = [re.sub(r"([\\`*_[\]<>|#&~])", r"\\\1", it) for it in said]
         self.tally.compare(f"{name}: why in the report", [it[2:] for it in report if it.startswith("- ")], marked)
@@ -162,7 +170,7 @@ class Reasons:
         self.tally.has(f"{name}: answers in the report", rows and set(rows) <= set(report))
         tab.send("Emulation.setEmulatedMedia", media="print")
         buttons = tab.ask("[...byId('why').querySelectorAll('button')].map(isSeen)")
-        self.tally.compare(f"{name}: lines that are printed", all(buttons), True)
+        self.tally.compare(f"{name}: lines that are printed", buttons, [True] * lines)
         tab.send("Emulation.setEmulatedMedia", media="")
 
     def compare_names(self, tab, script):
@@ -183,6 +191,6 @@ class Reasons:
         """An access that is refused has no reason, and no answers."""
         tab.call("type", MADE)
         shown = tab.call("whyShown", "publication", 1, ["M", "load", "0", "0"])
-        self.tally.compare("no access: why", shown, {"said": [], "rows": [], "now": -1})
+        self.tally.compare("no access: why", shown, {"said": [], "rows": [], "now": -1, "lines": []})
         report = tab.ask("reportOf(page)")
         self.tally.compare("no access: the report", "\n- " in report or "\n\n\n" in report, False)

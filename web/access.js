@@ -1,4 +1,4 @@
-// One access: how it is decided, why, and how after each publication.
+// One access: how it is decided, why, and its answers at all moments.
 
 const MOST_ROWS = 500;
 
@@ -19,7 +19,7 @@ function readAccess([mode, kind, start, length], names) {
     return first === null || bytes === null ? null : {mode, kind, start: first, length: bytes};
 }
 
-// A report row in words.
+// The decision of a row of `pmp why` in words.
 function sayDecision([, answer, fault, cause, entry]) {
     const verdict = answer === 'allow' ? 'Allowed' : `Fault ${fault}`;
     if (cause === 'none') return `${verdict}: no entry matches any of its bytes.`;
@@ -49,30 +49,32 @@ class Access {
         });
     }
 
-    // Takes the access that is asked about after 0, 1, .. publications of the boot, or single writes.
-    ask(boot, by) {
+    // Takes the form's access, to be asked about after 0, 1, .. publications of the boot, or single writes.
+    take(boot, by) {
         this.boot = boot;
         this.by = by;
         this.access = readAccess(this.state, this.names);
+        this.drawn = null; // or the rows of its answers at all moments, as they are drawn
     }
 
-    answerAt(after, call = 'check') {
+    answerAt(after) {
         const {access, boot, by} = this;
         if (access === null) return {status: BAD_WORD, line: 0, text: ''};
-        return this.unit[call](boot.scriptBy(by), after, access.mode, access.kind, access.start, access.length);
+        return this.unit.why(boot.scriptBy(by), after, access.mode, access.kind, access.start, access.length);
     }
 
     // Shows the answer at the moment, why it is so, and the answers at all moments.
     show(at) {
         const answer = this.answerAt(at);
         const right = answer.status === 0;
+        const end = answer.text.indexOf('\n') + 1; // of the row before the answers at all moments
+        const [reason] = linesOf(answer.text.slice(0, end), ',');
         const note = right && isBare(this.state[2]) ? ` Start: ${AS_DECIMAL}` : '';
-        byId('access-now').textContent = (right ? sayDecision(linesOf(answer.text, ',')[0]) : sayRefusal(answer)) + note;
+        byId('access-now').textContent = (right ? sayDecision(reason) : sayRefusal(answer)) + note;
         byId('access-now').className = right ? '' : 'wrong';
         for (const word of this.words) word.ariaInvalid = String(!right && word.tagName === 'INPUT');
-        const [reason, ...runs] = right ? linesOf(this.answerAt(at, 'why').text, ',') : [];
         this.showWhy(reason);
-        this.draw(runs);
+        this.draw(answer.text.slice(end));
         this.showNow(at);
     }
 
@@ -87,7 +89,11 @@ class Access {
         return [...fields.slice(0, 12), ...fields.slice(12).map(lineOf)];
     }
 
-    draw(runs) {
+    // The answers at all moments, which no move of the slider changes.
+    draw(rows) {
+        if (this.drawn === rows) return;
+        this.drawn = rows;
+        const runs = linesOf(rows, ',');
         this.groups = groupsOf(runs, this.boot.last(this.by)).slice(0, MOST_ROWS);
         const lines = this.groups.map((it) => [sayRange(it), ...it.fields]);
         fillTable(this.table, lines, (row, fields) => { row.className = fields[1]; });

@@ -54,7 +54,7 @@ class Boot {
         return this.singly;
     }
 
-    // The line of the script from which one comes of the script that is asked by. 0 is none.
+    // The line of this script that a line of `scriptBy` comes from; 0 for none.
     lineBy(by, line) {
         if (by === 'publication' || line === 0) return line;
         const first = this.head.split('\n').length;

@@ -197,7 +197,7 @@ class Page {
         const anew = by !== this.moment.by || this.boot !== this.shown;
         this.moment = {by, at: Math.min(moment.at, this.boot.last(by))};
         this.shown = this.boot;
-        if (anew) this.access.ask(this.boot, by);
+        if (anew) this.access.take(this.boot, by);
         this.showMoment();
         this.showAnswers();
         this.markLines(this.boot.eventsAt(this.moment));
@@ -211,7 +211,7 @@ class Page {
     }
 
     accessChanged() {
-        this.access.ask(this.boot, this.moment.by);
+        this.access.take(this.boot, this.moment.by);
         this.access.show(this.moment.at);
         this.noteAddress();
     }
@@ -219,7 +219,7 @@ class Page {
     // Shows the same answers with the names as they are now.
     namesChanged() {
         if (this.isAnswered) {
-            this.access.ask(this.boot, this.moment.by);
+            this.access.take(this.boot, this.moment.by);
             this.showAnswers();
             this.demands.ask(this.boot);
             this.differences.ask(this.boot);

@@ -73,20 +73,11 @@ class Unit {
         return this.ask('import', log, LOG_FORMATS[format]);
     }
 
-    // start and length are BigInts.
-    check(script, after, mode, kind, start, length) {
-        return this.askOf('check', script, after, mode, kind, start, length);
-    }
-
-    // The row that says why the access is decided so, and the rows of its answers at all moments.
+    // The row that says how an access is decided and why, and the rows of its answers at all moments. start and length
+    // are BigInts, which a module would take modulo 2^64.
     why(script, after, mode, kind, start, length) {
-        return this.askOf('why', script, after, mode, kind, start, length);
-    }
-
-    // A call about an access. A module would take numbers modulo 2^64.
-    askOf(name, script, after, mode, kind, start, length) {
         if (start >> 64n !== 0n || length >> 64n !== 0n) return {status: BAD_WORD, line: 0, text: ''};
-        return this.ask(name, script, BigInt(after), MODES[mode], KINDS[kind], start, length);
+        return this.ask('why', script, BigInt(after), MODES[mode], KINDS[kind], start, length);
     }
 
     // The verdict row of one row of a policy: {number, from, to, first, last}, which are BigInts, and {modes, kind,

@@ -13,7 +13,6 @@ use Rattle.pmp_audit.specs.declared.fault.AuditFault.{AuditFault}
 use Rattle.pmp_audit.specs.declared.fault.AuditFault.TheVariants.{BadAfterOf, NoMomentOf, Script, ScriptOf}
 use Rattle.pmp_audit.specs.declared.fault.Side.TheVariants.{New}
 use Rattle.pmp_audit.specs.declared.write_list.WriteSummary.{WriteSummary}
-use Rattle.pmp_audit.specs.AccessCheck.{CheckSays}
 use Rattle.pmp_audit.specs.Answers.{Declines}
 use Rattle.pmp_audit.specs.AskedFile.{FileRefuses}
 use Rattle.pmp_audit.specs.View.{ViewSays}
@@ -79,22 +78,16 @@ pub record CountSays (script text : List ℕ) : Type 0 where
 abbrev pub RowsSay : (script text : List ℕ) → Type 0
 RowsSay script text = (summary : WriteSummary) × WritesSay script summary text
 
--- the text has the row of the decision
-abbrev pub CheckAnswerSays : (script : List ℕ) → Access → (after : ℕ) → (text : List ℕ) → Type 0
-CheckAnswerSays script access after text = (decision : Decision)
-    × CheckSays script access (Some (Number after)) decision text
-
 -- the text has the row that says why it is decided so, and those of its answers at all moments
 abbrev pub WhyAnswerSays : (script : List ℕ) → Access → (after : ℕ) → (text : List ℕ) → Type 0
 WhyAnswerSays script access after text = (decision : Decision)
     × ReasonsSay script access (Some (Number after)) decision text
 
 -- the numbers name an access, which is answered, or they name none
-abbrev pub AnswersAccess : (Says : (script : List ℕ) → Access → (after : ℕ) → (text : List ℕ) → Type 0)
-    → (script : List ℕ) → (after mode kind start length status : ℕ) → Answer → Type 0
-AnswersAccess Says script after mode kind start length status answer =
+abbrev pub AnswersAccess : (script : List ℕ) → (after mode kind start length status : ℕ) → Answer → Type 0
+AnswersAccess script after mode kind start length status answer =
     ((access : Access) × IsNamed access mode kind start length
-    × Answers (Says script access after) (FileRefuses script (Some (Number after))) status answer)
+    × Answers (WhyAnswerSays script access after) (FileRefuses script (Some (Number after))) status answer)
     ⊎ ((refusal : Refusal) × NamesNone mode kind start length refusal × IsUnasked refusal status answer)
 
 -- the view that the number names is shown, or it names none

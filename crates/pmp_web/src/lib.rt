@@ -14,7 +14,7 @@ ghost use Rattle.pmp_audit.specs.WriteList.{WritesRefuse};
 ghost use Rattle.pmp_text.specs.declared.moments.When.TheVariants.{Number};
 ghost use Rattle.pmp_audit.specs.ScriptDiff.{DiffRefuses};
 ghost use Rattle.pmp_web.specs.Answers.{Answers, AnswersAccess, AnswersImport, AnswersVerdict, AnswersView};
-ghost use Rattle.pmp_web.specs.Answers.{CheckAnswerSays, CountSays, DiffAnswerSays, RowsSay, WhyAnswerSays};
+ghost use Rattle.pmp_web.specs.Answers.{CountSays, DiffAnswerSays, RowsSay};
 ghost use Rattle.pmp_web.specs.Demand.{question_of};
 ghost use Rattle.pmp_web.specs.Request.{format_of, view_of};
 ghost use Rattle.pmp_web.specs.Rooms.{script_in, text_in};
@@ -25,8 +25,7 @@ mod rooms;
 
 use answering::{ANSWERED, GUESSED, Log, append_count, refuse, refuse_log, refuse_question, tell};
 use pmp_audit::{
-    AskedChanges, append_check, append_diff, append_reasons, append_verdict, append_view,
-    append_writes,
+    AskedChanges, append_diff, append_reasons, append_verdict, append_view, append_writes,
 };
 use pmp_import::append_import;
 use pmp_text::{Refusal, When};
@@ -77,37 +76,9 @@ pub extern "C" fn tilvenka_page_writes(script: &Script, answer: &mut Answer) -> 
     tell!(answer, append_writes(log, script.text(), answer))
 }
 
-/// Decides one access after the given number of publications, and writes its row like `pmp check`. Numbers that name no
-/// access are refused before the script is read: 24 for an unknown mode or kind, 3 or 4 like `pmp check`.
-#[unsafe(no_mangle)]
-pub extern "C" fn tilvenka_page_check(
-    script: &Script,
-    after: u64,
-    mode: u32,
-    kind: u32,
-    start: u64,
-    length: u64,
-    answer: &mut Answer,
-) -> u32
-    ensures { AnswersAccess CheckAnswerSays (script_in script.now) after mode kind start length result answer.new }
-{
-    match request::access_of(mode, kind, start, length) {
-        Ok(access) => tell!(
-            answer,
-            append_check(
-                &mut Log::new(),
-                script.text(),
-                &access,
-                Some(When::Number(after)),
-                answer
-            )
-        ),
-        Err(refusal) => refuse_question(answer, refusal),
-    }
-}
-
 /// Decides one access after the given number of publications, and writes why, and its answers at all moments, like
-/// `pmp why`. Numbers that name no access are refused as by `tilvenka_page_check`.
+/// `pmp why`. Numbers that name no access are refused before the script is read: 24 for an unknown mode or kind, 3 or 4
+/// like `pmp why`.
 #[unsafe(no_mangle)]
 pub extern "C" fn tilvenka_page_why(
     script: &Script,
@@ -118,7 +89,7 @@ pub extern "C" fn tilvenka_page_why(
     length: u64,
     answer: &mut Answer,
 ) -> u32
-    ensures { AnswersAccess WhyAnswerSays (script_in script.now) after mode kind start length result answer.new }
+    ensures { AnswersAccess (script_in script.now) after mode kind start length result answer.new }
 {
     match request::access_of(mode, kind, start, length) {
         Ok(access) => tell!(
