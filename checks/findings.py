@@ -161,7 +161,7 @@ class Findings:
             head = f"{place.capitalize() or 'Policy'}: refused {status} "
             self.tally.has(f"{place_shown}: {shown['fault']!r}", shown["fault"].startswith(head) if status
                            else shown["fault"] == "")
-            note = re.sub("pmp: note: policy row (.*)\n", r"\1.", self.told) if status == 0 else ""
+            note = self.told.removeprefix("pmp: note: ").removesuffix("\n") if status == 0 else ""
             self.tally.compare(f"{place_shown}: the note", shown["note"], note)
             self.tally.compare(f"{place_shown}: what is wanted", bool(shown["wanted"]), bool(status))
             moments = [{"by": by, "at": int(it.split(",")[2])} for it in rows[:40] if ",broken," in it]

@@ -170,6 +170,13 @@ function verdictOf(text, change) {
     return asList(page.unit.verdict(encodeText(text), row));
 }
 
+// What the page notes beside verdicts, in the program's words.
+function noteOf(count) {
+    if (count === 'The policy has no rows, so it holds.') return 'the policy has no rows';
+    const [, row] = count.split(' Row ');
+    return row ? `policy row ${row.slice(0, -1)}` : '';
+}
+
 async function verdictsShown(policy, by) {
     byId('each-write').checked = by === 'write';
     byId('policy').value = policy;
@@ -183,7 +190,7 @@ async function verdictsShown(policy, by) {
         said: rowsOf('verdicts').map((cells) => cells[6]),
         answers: page.demands.fault ? [] : page.demands.lines.map(asRow),
         fault: seen ? byId('policy-fault-line').textContent : '',
-        note: byId('verdicts-count').textContent.split(' Row ')[1] ?? '',
+        note: noteOf(byId('verdicts-count').textContent),
         wanted: seen ? byId('policy-fault-wanted').textContent : '',
     };
 }
