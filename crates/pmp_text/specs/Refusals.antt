@@ -10,7 +10,7 @@ use Rattle.pmp_text.specs.declared.refusal.Refusal.TheVariants.{NoPlace, Full, M
 use Rattle.pmp_text.specs.declared.refusal.Refusal.TheVariants.{LateHead, Twice, BadEntries, BadBits, NotHeld, BadGrain}
 use Rattle.pmp_text.specs.declared.refusal.Refusal.TheVariants.{BadMark, OpenMark, NoMoment, BadEntry, BadEvent, NoHart}
 use Rattle.pmp_text.specs.declared.refusal.Refusal.TheVariants.{BadFormat, BadFolder, TooMany}
-use Rattle.pmp_text.specs.declared.refusal.Refusal.TheVariants.{Overlap, BadPair, TooFine, FewEntries, Stopped}
+use Rattle.pmp_text.specs.declared.refusal.Refusal.TheVariants.{Overlap, BadPair, TooFine, FewEntries, Stopped, NoOrder, NoRows}
 
 abbrev pub number_of : Refusal → ℕ
 number_of BadLength = 3
@@ -54,6 +54,8 @@ number_of BadPair = 66
 number_of TooFine = 67
 number_of FewEntries = 68
 number_of Stopped = 69
+number_of NoOrder = 70
+number_of NoRows = 71
 
 abbrev pub name_of : Refusal → List ℕ
 name_of BadLength = codes "BadLength"
@@ -97,6 +99,8 @@ name_of BadPair = codes "BadPair"
 name_of TooFine = codes "TooFine"
 name_of FewEntries = codes "FewEntries"
 name_of Stopped = codes "Stopped"
+name_of NoOrder = codes "NoOrder"
+name_of NoRows = codes "NoRows"
 
 -- the program's exit status: 3 if memory, input, output or a shared unit failed, else 2
 abbrev pub status_of : Refusal → ℕ

@@ -94,6 +94,10 @@ pub enum Refusal {
     FewEntries = 68,
     /// The search for a plan's entries stopped at its bound.
     Stopped = 69,
+    /// No order of a plan's writes was found in which each of them leaves open and closed what has to be.
+    NoOrder = 70,
+    /// A policy that must have a row has none.
+    NoRows = 71,
 }
 
 /// The reasons why a script is refused: 10 to 17, 40, and in version 3 50 to 57, 59 and 63.
@@ -157,6 +161,8 @@ impl Refusal {
             Refusal::TooFine => "TooFine",
             Refusal::FewEntries => "FewEntries",
             Refusal::Stopped => "Stopped",
+            Refusal::NoOrder => "NoOrder",
+            Refusal::NoRows => "NoRows",
         }
     }
 
@@ -209,7 +215,8 @@ impl Refusal {
             Refusal::Order => "at least as many publications as in the row before",
             Refusal::BadWord =>
                 "words as the command's help has them: stdin for one input alone, --jobs and --first-row with \
-                --long, --checkers and an audit's --names without it, plan --of alone",
+                --long, --checkers and an audit's --names without it, plan --of alone, plan --from without \
+                a hart",
             Refusal::NoPlace => "a place for each checker in the unit that they share",
             Refusal::Full => "room for a batch in the unit",
             Refusal::Moved => "no more publications than a checker was told of",
@@ -248,6 +255,10 @@ impl Refusal {
             Refusal::TooFine => "rows that begin and end between two grains of the hart",
             Refusal::FewEntries => "a plan for the entries that the hart has",
             Refusal::Stopped => "a plan whose entries are found within the bound of the search",
+            Refusal::NoOrder =>
+                "an order of writes in which none of them opens a byte that is closed before all and after all, nor \
+                with --keep closes one that is open",
+            Refusal::NoRows => "a policy with at least one row",
         }
     }
 
@@ -318,6 +329,10 @@ impl Refusal {
             Refusal::TooFine => "move the row's ends to multiples of the grain, in bytes",
             Refusal::FewEntries => "join rows of the same rights, or move ends to powers of two",
             Refusal::Stopped => "make the plan smaller: entries for it may exist nevertheless",
+            Refusal::NoOrder =>
+                "leave an entry of the script off, so that it can be used on the way; leave --keep out; or, where \
+                only M-mode runs until the last write, give --while-m",
+            Refusal::NoRows => "write a row, or leave --strict out",
         }
     }
 }
