@@ -263,12 +263,14 @@ struct subject {
     struct run best;
 };
 
-/* Each round runs all of them in turn, so that a busy machine slows none alone. */
+/* Each round runs all of them in turn, so that a busy machine slows none alone. Each writes a new file: emptying one of
+   many pages takes as long as writing it. */
 static void run_rounds(struct subject *subjects, size_t count, unsigned rounds) {
     for (size_t i = 0; i < count; i++)
         subjects[i].best = (struct run){1e18, 0};
     for (unsigned round = 0; round < rounds; round++) {
         for (size_t i = 0; i < count; i++) {
+            remove(subjects[i].report);
             struct run one = run(subjects[i].words, subjects[i].output), *best = &subjects[i].best;
             if (one.seconds < best->seconds)
                 best->seconds = one.seconds;
