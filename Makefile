@@ -88,7 +88,8 @@ test:
 	    'checks/machines $(PROGRAM)' \
 	    'checks/rv32 $(PROGRAM)' \
 	    'checks/growths $(STRESS)' \
-	    'checks/plans --plans 200 $(PROGRAM)'
+	    'checks/plans --plans 200 $(PROGRAM)' \
+	    'checks/orders --pairs 60 --most 3000 $(PROGRAM)'
 
 # Notes that rt ci has proved the program.
 PROVED = release/build --note program "rt ci" "$$(cat out/proving)" && rm out/proving

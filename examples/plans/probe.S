@@ -1,18 +1,26 @@
 /* SPDX-License-Identifier: MIT OR Apache-2.0 */
-/* Firmware for QEMU's virt machine in the memory of boot.csv: it makes the CSR writes of writes.h, tries each access of
- * rows.h in the row's mode, and writes the row's number and the cause of the exception after it to the console. After a
- * load or a store that is allowed comes a breakpoint; an allowed fetch finds no instruction. Then it ends QEMU. */
+/* Firmware for QEMU's virt machine in the memory of boot.csv, a.csv or b.csv: it makes the CSR writes of steps.h, and
+ * after each plan's `probe` tries each access of rows.h in the row's mode, and writes the row's number and the cause of
+ * the exception after it to the console. After a load or a store that is allowed comes a breakpoint; an allowed fetch
+ * finds no instruction. Then it ends QEMU. */
 
     .globl _start
 _start:
     la t0, trap
     csrw mtvec, t0
-#include "writes.h"
+#include "steps.h"
+    j done
+
+/* probe: tries the accesses, and returns to s2. */
+probe:
+    sfence.vma
     la s0, rows
     li s1, 0
 next:
     la t0, end
-    beq s0, t0, done
+    bne s0, t0, 1f
+    jr s2
+1:
     lwu t0, 0(s0)                       /* MPP, the mode that mret leads to */
     li t1, 0x1800
     csrc mstatus, t1
