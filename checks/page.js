@@ -241,6 +241,53 @@ async function findingsSet(policyName, oldName, policy, old, by, afters) {
     return findingsShown();
 }
 
+// Plans.
+
+const meetsOf = (text, after, plan) => asList(page.unit.meets(encodeText(text), after, encodeText(plan)));
+const plansOf = (text, plan) => [0, 1, 2, 3, 4, 5, 6, 7].map((bits) =>
+    asList(page.unit.plan(encodeText(text), encodeText(plan), bits)));
+
+function givePlan(text) {
+    byId('plan').value = text;
+    tellInput(byId('plan'));
+    return planShown();
+}
+
+function planShown() {
+    const seen = isSeen(byId('plan-fault'));
+    return {
+        rows: rowsOf('plan-rows'),
+        count: byId('plan-count').textContent,
+        line: seen ? byId('plan-fault-line').textContent : '',
+        advice: seen ? byId('plan-fault-advice').textContent : '',
+        makes: !byId('plan-make').disabled,
+    };
+}
+
+// The row that the plan's fault leads to.
+function planGoneTo() {
+    if (!isSeen(byId('plan-go'))) return '';
+    byId('plan-go').click();
+    const {value, selectionStart, selectionEnd} = byId('plan');
+    return value.slice(selectionStart, selectionEnd);
+}
+
+// Where the slider has been moved, what is shown of the plan.
+function planShownAt(by, at) {
+    slide(by, at);
+    return planShown();
+}
+
+// The script that is opened for the plan with these bits, or why there is none.
+function planMade(bits) {
+    for (const [id, bit] of Object.entries(MSECCFG_BITS)) {
+        byId(id).checked = (bits & bit) !== 0;
+        byId(id).dispatchEvent(new Event('change', {bubbles: true}));
+    }
+    byId('plan-make').click();
+    return [page.editor.text, noticeShown(), byId('plan-unmade').textContent];
+}
+
 // Names of addresses.
 
 function giveNames(text) {

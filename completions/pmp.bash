@@ -26,7 +26,8 @@ _pmp() {
             esac
             ;;
         plan)
-            words='--explain --xlen --entries --grain --address-bits --smepmp --mml --mmwp --rlb --c --of stdin'
+            words='--explain --xlen --entries --grain --address-bits --smepmp --mml --mmwp --rlb --from --keep --while-m'
+            words+=' --c --of stdin'
             files=yes
             ;;
         help) words="$commands script trace names rows" ;;

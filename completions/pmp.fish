@@ -56,5 +56,8 @@ complete -c pmp -n '__fish_seen_subcommand_from import' -l bursts \
 complete -c pmp -n '__fish_seen_subcommand_from plan' -l mml -d 'set MML'
 complete -c pmp -n '__fish_seen_subcommand_from plan' -l mmwp -d 'set MMWP'
 complete -c pmp -n '__fish_seen_subcommand_from plan' -l rlb -d 'set RLB'
+complete -c pmp -n '__fish_seen_subcommand_from plan' -l from -r -d 'begin with the registers that a script leaves'
+complete -c pmp -n '__fish_seen_subcommand_from plan' -l keep -d 'keep open what stays open'
+complete -c pmp -n '__fish_seen_subcommand_from plan' -l while-m -d 'ask only of M-mode until the last write'
 complete -c pmp -n '__fish_seen_subcommand_from plan' -l c -d 'write an array in C'
 complete -c pmp -n '__fish_seen_subcommand_from plan' -l of -d 'write the plan of a script'

@@ -1,7 +1,8 @@
 // The state in the address, behind its #: boot=NAME or script=TEXT, by=write where single writes are asked of, at=N,
-// access=MODE,KIND,START,LENGTH; policy=NAME or rows=TEXT, and pace=write where a policy asks after each write;
-// old=NAME or before=TEXT, and done=N,M where not all publications of the old and the new script are; names=TEXT where
-// addresses have names. TEXT is a text, squeezed and in base64 as addresses take it.
+// access=MODE,KIND,START,LENGTH; plan=NAME or ranges=TEXT, and mseccfg=N where its script is to set bits; policy=NAME
+// or rows=TEXT, and pace=write where a policy asks after each write; old=NAME or before=TEXT, and done=N,M where not
+// all publications of the old and the new script are; names=TEXT where addresses have names. TEXT is a text, squeezed
+// and in base64 as addresses take it.
 
 const LONGEST_ADDRESS = 32768;
 
@@ -32,6 +33,7 @@ async function readAddress(hash) {
     if (access.length === 4) state.access = access;
     const pace = fields.get('pace') === 'write' ? 'write' : 'publication';
     if (fields.has('names')) state.names = await unsqueezeText(fields.get('names'));
+    state.plan = {...await readText(fields, 'plan', 'ranges'), mseccfg: Number(fields.get('mseccfg') ?? 0)};
     state.policy = {...await readText(fields, 'policy', 'rows'), by: pace};
     const [oldAfter, newAfter] = [...(fields.get('done') ?? '').split(','), ''];
     state.old = {...await readText(fields, 'old', 'before'), afters: [oldAfter, newAfter]};
@@ -62,6 +64,8 @@ async function addressOf(state) {
     if (Number.isFinite(state.at)) fields.push(`at=${state.at}`);
     fields.push(`access=${state.access.map(encodeURIComponent).join(',')}`);
     if (state.names !== '') fields.push(`names=${await squeezeText(state.names)}`);
+    fields.push(...await textFields(state.plan, 'plan', 'ranges'));
+    if (state.plan.mseccfg !== 0) fields.push(`mseccfg=${state.plan.mseccfg}`);
     fields.push(...await textFields(state.policy, 'policy', 'rows'));
     if (state.policy.by === 'write') fields.push('pace=write');
     fields.push(...await textFields(state.old, 'old', 'before'));

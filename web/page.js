@@ -18,10 +18,10 @@ function sayRefusal({status, line}, lines = 'Script line') {
 function sayAdvice({status}) {
     if (status === NO_ANSWER.status) return '';
     if (status !== MEMORY) return data.refusals[status].advice;
-    const {EVENTS, PUBLICATIONS, EXPECTATIONS, MARKS, MAX_ANSWER} = data.limits;
+    const {EVENTS, PUBLICATIONS, EXPECTATIONS, MARKS, ROWS, MAX_ANSWER} = data.limits;
     return `The page has room for ${counted(EVENTS, 'event')}, for ${counted(PUBLICATIONS, 'publication')}, of which `
         + `each single write is one where these are asked of, for ${counted(EXPECTATIONS, 'expectation')}, `
-        + `for ${counted(MARKS, 'mark')}, `
+        + `for ${counted(MARKS, 'mark')}, for ${counted(ROWS, 'row')} of a plan, `
         + `and for an answer of ${counted(MAX_ANSWER, 'byte')}. The program has no such limits.`;
 }
 
@@ -40,6 +40,7 @@ class Page {
         this.demands = new Demands(unit, this.names, data.policies, (moment) => this.goToMoment(moment), changed);
         const kept = () => (this.name === '' ? {text: this.editor.text} : {name: this.name});
         this.differences = new Differences(unit, this.names, data.boots, kept, changed);
+        this.plan = new Plan(unit, data.plans, (text, told) => this.openPlanned(text, told), changed);
         this.harts = new Harts(unit, (text, first) => this.openHart(text, first));
         offerNames(byId('boot'), data.boots);
         this.listen();
@@ -108,6 +109,7 @@ class Page {
         if (state?.access) this.access.state = state.access;
         this.demands.state = state?.policy ?? {by: 'publication'};
         this.differences.state = state?.old ?? {afters: ['', '']};
+        this.plan.state = state?.plan ?? {mseccfg: 0};
         const own = state?.text !== undefined;
         const known = Object.hasOwn(data.boots, state?.boot);
         const name = known ? state.boot : Object.keys(data.boots)[0];
@@ -129,12 +131,23 @@ class Page {
             tellTooLong(long);
             return;
         }
+        if (files.length === 1 && isPlan(await files[0].text())) {
+            await this.plan.openFile(files[0]);
+            return;
+        }
         const scripts = await Promise.all(files.map((file) => readScript(this.unit, file)));
         this.harts.put(scripts);
         const {text, told} = scripts.length > 1 ? this.harts.scripts[0] : scripts[0];
         this.open('', text);
         if (told !== '') tell(told);
         tellOfText(text);
+        this.noteAddress();
+    }
+
+    // The script of the plan, which is told of.
+    openPlanned(text, told) {
+        this.open('', text);
+        tell(told);
         this.noteAddress();
     }
 
@@ -279,6 +292,7 @@ class Page {
         }
         this.picture.show(this.names.given === null ? picture.text : withNames(picture.text, this.runs()));
         this.showRuns();
+        this.plan.show(this.boot.scriptBy(this.moment.by), this.moment.at);
         this.showEntries();
         this.showRegisters();
         this.access.show(this.moment.at);
@@ -368,9 +382,9 @@ class Page {
     }
 
     async writeAddress() {
-        const {access, demands, differences, moment, names} = this;
+        const {access, demands, differences, moment, names, plan} = this;
         const state = {boot: this.name, text: this.editor.text, ...moment, access: access.state, names: names.text};
-        [state.policy, state.old] = [demands.state, differences.state];
+        [state.plan, state.policy, state.old] = [plan.state, demands.state, differences.state];
         const address = await addressOf(state);
         history.replaceState(null, '', address === '' ? location.pathname + location.search : address);
         if (address === '') tell('The texts are too long for the address: send them beside a link.');
@@ -385,20 +399,4 @@ function classOfEntry([, matching, , , , , lock, address, , holds]) {
     if (lock === '-' && address === '-' && matching === 'off') return 'open-off';
     if (holds !== '') return 'holds';
     return lock;
-}
-
-function tell(text) {
-    byId('notice').textContent = text;
-    byId('notice').hidden = text === '';
-}
-
-function tellTooLong(file) {
-    const fault = {status: TOO_LONG, line: 0};
-    tell(`${file.name}: ${sayRefusal(fault)}. ${sayAdvice(fault)}`);
-}
-
-// What a text of the page doesn't have as its file has it.
-function tellOfText(text) {
-    if (/\r(?!\n)/.test(text)) tell('The editor has no lone CR: each is a line’s end here.');
-    if (text.includes('\ufffd')) tell('Bytes that are no UTF-8 are U+FFFD here.');
 }

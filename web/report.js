@@ -5,6 +5,7 @@ function reportOf(page) {
     const parts = [
         [byId('decisions').caption.textContent, 'decisions', rowsSeen('decisions')],
         ['Memory map', 'runs', page.runs()],
+        ['Plan', 'plan-rows', rowsSeen('plan-rows')],
         ['Entries', 'entries', rowsSeen('entries')],
         ['Policy', 'verdicts', rowsSeen('verdicts')],
         ['Difference', 'differences', rowsSeen('differences')],

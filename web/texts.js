@@ -33,3 +33,20 @@ function takeFile(input, part, open) {
         open(event.dataTransfer.files[0]);
     });
 }
+
+// What is told at the head of the page.
+function tell(text) {
+    byId('notice').textContent = text;
+    byId('notice').hidden = text === '';
+}
+
+function tellTooLong(file) {
+    const fault = {status: TOO_LONG, line: 0};
+    tell(`${file.name}: ${sayRefusal(fault)}. ${sayAdvice(fault)}`);
+}
+
+// What a text of the page doesn't have as its file has it.
+function tellOfText(text) {
+    if (/\r(?!\n)/.test(text)) tell('The editor has no lone CR: each is a line’s end here.');
+    if (text.includes('\ufffd')) tell('Bytes that are no UTF-8 are U+FFFD here.');
+}

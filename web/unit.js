@@ -1,14 +1,14 @@
 // The unit: the proved module, and what it is asked. Each answer is {status, line, text}: status 0 and a text as the
 // program writes it, or the number of a refusal, with the script's line that is at fault, or 0.
 //
-// The module's memory has two rooms for scripts, or a log, each its length and its bytes, one for a demand, and one for
-// an answer: a line, a length, and bytes. They stand behind all that the module has of its own. Its addresses have 64
-// bits, so they are BigInts.
+// The module's memory has two rooms for scripts, or a log or a plan, each its length and its bytes, one for a demand,
+// and one for an answer: a line, a length, and bytes. They stand behind all that the module has of its own. Its
+// addresses have 64 bits, so they are BigInts.
 
 const WORD = 8;
 const WASM_PAGE = 65536;
 const DEMAND = 5 * WORD + 4 * 4;
-const OF_THE_NEW = 256; // is added to the status where the new of two scripts is at fault
+const OF_THE_OTHER = 256; // is added to the status where the new of two scripts, or a plan, is at fault
 const TOO_LONG = 17;
 const BAD_WORD = 24;
 const MEMORY = 40;
@@ -97,8 +97,23 @@ class Unit {
     diff(old, oldAfter, script, newAfter) {
         const answer = this.call('diff', [[this.script, old], [this.other, script]],
             [BigInt(this.script), oldAfter, BigInt(this.other), newAfter]);
-        if (answer.status >= OF_THE_NEW) return {...answer, status: answer.status - OF_THE_NEW, side: 'new'};
+        if (answer.status >= OF_THE_OTHER) return {...answer, status: answer.status - OF_THE_OTHER, side: 'new'};
         return {...answer, side: answer.status === MEMORY ? '' : 'old'};
+    }
+
+    // The verdicts on a plan's rows by the registers at the moment, or a refusal, whose line is the plan's row.
+    meets(script, after, plan) {
+        return this.askOfPlan('meets', script, plan, [BigInt(this.script), BigInt(after), BigInt(this.other)]);
+    }
+
+    // The script of a plan for the script's hart and this value of mseccfg, or a refusal.
+    plan(script, plan, mseccfg) {
+        return this.askOfPlan('plan', script, plan, [BigInt(this.script), BigInt(this.other), mseccfg]);
+    }
+
+    askOfPlan(name, script, plan, words) {
+        const answer = this.call(name, [[this.script, script], [this.other, plan]], words);
+        return {...answer, status: answer.status % OF_THE_OTHER};
     }
 
     // A call of an export whose first parameter is the script's room.
@@ -110,7 +125,7 @@ class Unit {
     // traps, which no call is meant to do, that is told, and the next one asks a module that is begun anew.
     call(name, scripts, words) {
         const long = scripts.findIndex(([, script]) => script.length > this.limits.MAX_SCRIPT);
-        if (long >= 0) return {status: TOO_LONG + long * OF_THE_NEW, line: 0, text: ''};
+        if (long >= 0) return {status: TOO_LONG + long * OF_THE_OTHER, line: 0, text: ''};
         try {
             for (const [room, script] of scripts) this.put(room, script);
             return this.read(this.exports[`tilvenka_page_${name}`](...words, BigInt(this.answer)));

@@ -1,3 +1,5 @@
 pub mod Giving
+pub mod Answering
+pub mod Judging
 pub mod Rules
 pub mod NoRows

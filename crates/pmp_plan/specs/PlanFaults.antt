@@ -7,14 +7,17 @@ use Rattle.pmp_core.specs.declared.hart.Profile.{Profile}
 use Rattle.pmp_core.specs.declared.size.TheConstants.{MAX_ENTRIES}
 use Rattle.pmp_core.specs.Hart.{word_addresses}
 use Rattle.pmp_core.specs.Histories.{replay}
+use Rattle.pmp_core.specs.RegisterFile.{RegisterFile}
 use Rattle.pmp_text.specs.declared.refusal.Refusal.{Refusal}
 use Rattle.pmp_text.specs.declared.refusal.Refusal.TheVariants as refusal
+use Rattle.pmp_plan.specs.declared.aim.Aim.{Aim}
 use Rattle.pmp_plan.specs.declared.fault.PlanFault.{PlanFault}
 use Rattle.pmp_plan.specs.declared.fault.PlanFault.TheVariants as fault
 use Rattle.pmp_plan.specs.declared.plan_row.PlanRow.{PlanRow}
 use Rattle.pmp_plan.specs.declared.security.Security.{Security}
 use Rattle.pmp_plan.specs.PlanRules.{HasRule}
 use Rattle.pmp_plan.specs.Plans.{MeetsPlan, is_in, no_security}
+use Rattle.pmp_plan.specs.Routes.{IsPlain, lasting}
 
 abbrev pub refusal_of : PlanFault → Refusal
 refusal_of (fault.Overlap row other) = refusal.Overlap
@@ -24,6 +27,7 @@ refusal_of (fault.BadPair row) = refusal.BadPair
 refusal_of fault.NotHeld = refusal.NotHeld
 refusal_of (fault.FewEntries found row takes) = refusal.FewEntries
 refusal_of fault.Stopped = refusal.Stopped
+refusal_of fault.NoOrder = refusal.NoOrder
 refusal_of fault.Memory = refusal.Memory
 
 -- the row with this index has the byte
@@ -93,4 +97,12 @@ Refuses hart security rows (fault.FewEntries found row takes) =
     IsSound hart security rows × (hart.entries < found)
     × (found ≤ MAX_ENTRIES → CanMeet (record hart { entries = found }) security rows)
 Refuses hart security rows fault.Stopped = IsSound hart security rows × (0 < length rows)
+Refuses hart security rows fault.NoOrder = ⊥
 Refuses hart security rows fault.Memory = ⊤
+
+-- from these registers: the plan has this fault, or no order of writes was found for a sound one, though one is asked for
+abbrev pub RefusesFrom : RegisterFile → Aim → List PlanRow → PlanFault → Type 0
+RefusesFrom start aim rows why =
+    let security = lasting start aim.security in
+    Refuses start.profile security rows why
+    ⊎ ((why ≡ fault.NoOrder) × IsSound start.profile security rows × ¬ (IsPlain start aim))

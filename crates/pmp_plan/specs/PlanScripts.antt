@@ -1,18 +1,16 @@
--- A script whose registers meet a plan.
+-- A script whose writes lead to a plan.
 use Rattle.std.specs.Prelude.{◌≡◌, ℕ, List, Ok}
-use Rattle.pmp_core.specs.declared.hart.Profile.{Profile}
-use Rattle.pmp_core.specs.RegisterFile.{reset_file}
+use Rattle.pmp_core.specs.Histories.{joined}
+use Rattle.pmp_core.specs.RegisterFile.{RegisterFile}
 use Rattle.pmp_text.specs.Contents.{ScriptContents}
-use Rattle.pmp_text.specs.Reports.{file_behind}
 use Rattle.pmp_text.specs.Scripts.{script_meaning}
+use Rattle.pmp_plan.specs.declared.aim.Aim.{Aim}
 use Rattle.pmp_plan.specs.declared.plan_row.PlanRow.{PlanRow}
-use Rattle.pmp_plan.specs.declared.security.Security.{Security}
-use Rattle.pmp_plan.specs.Plans.{MeetsPlan}
+use Rattle.pmp_plan.specs.Routes.{Leads}
 
--- the text is a script that begins with a reset of the hart, and the register file after all its publications meets the
--- plan
-pub record MeansPlan (hart : Profile) (security : Security) (rows : List PlanRow) (text : List ℕ) : Type 0 where
+-- the text is a script that begins with these registers, and its writes lead to the plan
+pub record MeansPlan (start : RegisterFile) (aim : Aim) (rows : List PlanRow) (text : List ℕ) : Type 0 where
   pub contents : ScriptContents
   pub means : script_meaning text ≡ Ok contents
-  pub start : contents.start ≡ reset_file hart
-  pub met : MeetsPlan hart security rows (file_behind contents.start contents.batches)
+  pub start_is : contents.start ≡ start
+  pub leads : Leads start aim rows (joined contents.batches)

@@ -1,5 +1,5 @@
 -- The plan that a script's registers meet.
-use Rattle.std.specs.Prelude.{◌≡◌, ℕ, List, Option, Ok, Err, map}
+use Rattle.std.specs.Prelude.{◌≡◌, ◌⊎◌, ℕ, List, Option, Ok, Err, map}
 use Rattle.std.specs.Io.KnownBytes.{Appends, Keeps}
 use Rattle.std.specs.List.{AllPairs}
 use Rattle.pmp_core.specs.RegisterFile.{RegisterFile}
@@ -27,17 +27,26 @@ pub record IsPlanOf (file : RegisterFile) (text : List ℕ) : Type 0 where
   pub security : Security
   pub met : MeetsPlan file.profile security rows file
 
--- the text is a plan of the registers after all publications of a script
-pub record IsPlanOfScript (script text : List ℕ) : Type 0 where
+-- the register file is the one after all publications of a script
+pub record Leaves (script : List ℕ) (file : RegisterFile) : Type 0 where
   pub contents : ScriptContents
   pub means : script_meaning script ≡ Ok contents
-  pub plan : IsPlanOf (file_behind contents.start contents.batches) text
+  pub file_is : file ≡ file_behind contents.start contents.batches
 
 -- the text is no script, or memory ran out
-pub data HasNoPlan (script : List ℕ) : AnswerFault → Type 0 where
-  no_script : (fault : ScriptFault) → script_meaning script ≡ Err fault → HasNoPlan script (answer.Script fault)
-  no_memory_for_script : HasNoPlan script (answer.Script out_of_memory)
-  no_memory : HasNoPlan script (answer.Plan Memory)
+pub data LeavesNone (script : List ℕ) : AnswerFault → Type 0 where
+  no_script : (fault : ScriptFault) → script_meaning script ≡ Err fault → LeavesNone script (answer.Script fault)
+  no_memory_for_script : LeavesNone script (answer.Script out_of_memory)
+
+-- the text is a plan of these registers
+pub record IsPlanOfScript (script text : List ℕ) : Type 0 where
+  pub file : RegisterFile
+  pub left : Leaves script file
+  pub plan : IsPlanOf file text
+
+-- there are no such registers, or memory ran out
+abbrev pub HasNoPlan : (script : List ℕ) → AnswerFault → Type 0
+HasNoPlan script fault = LeavesNone script fault ⊎ (fault ≡ answer.Plan Memory)
 
 module _ (script : List ℕ) (before after : Option (List ℕ)) where
   abbrev pub PlanOfSays : Type 0

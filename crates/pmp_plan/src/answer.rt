@@ -5,14 +5,15 @@ ghost use Rattle.pmp_plan.specs.PlanAnswers.{IsTold, PlanFails, PlanSays, Untold
 ghost use Rattle.pmp_plan.specs.declared.answer.AnswerFault.TheVariants.{Output, Plan, Script, Text};
 ghost use Rattle.pmp_plan.specs.declared.fault.PlanFault.TheVariants.{Memory};
 
+use crate::aim::Aim;
 use crate::array::append_array;
 use crate::fault::PlanFault;
+use crate::leading::plan;
+use crate::level::search_room;
 use crate::plan_row::PlanRow;
-use crate::planning::plan;
 use crate::reading::read_plan;
 use crate::script::append_script;
-use crate::security::Security;
-use pmp_core::Hart;
+use pmp_core::RegFile;
 use pmp_text::{MAX_SCRIPT, OutputFault, Refusal, ScriptFault, TraceFault, write_out};
 use std::alloc::{AllocError, Global};
 use std::io::Write;
@@ -81,19 +82,19 @@ impl From<OutputFault> for AnswerFault {
 /// Returns the text of the writes for these rows.
 fn told(
     alloc: Global,
-    hart: Hart,
-    security: Security,
+    start: &RegFile,
+    aim: Aim,
     form: Form,
     rows: &[PlanRow<'_>],
 ) -> Result<Vec<u8>, AnswerFault>
-    ensures ok { IfOk result (λ text. IsTold hart security form rows.now text.items) }
-    ensures err { IfErr result (Untold hart security rows.now) }
+    ensures ok { IfOk result (λ text. IsTold start.now aim form rows.now text.items) }
+    ensures err { IfErr result (Untold start.now aim rows.now) }
 {
-    let planned = plan(alloc, hart, security, rows)?;
+    let writes = plan(&mut search_room(alloc)?, start, aim, rows)?;
     let mut text = Vec::new(alloc);
     match form {
-        Form::Script => append_script(&mut text, &planned, security, rows)?,
-        Form::Array => append_array(&mut text, &planned.writes)?,
+        Form::Script => append_script(&mut text, start, aim, rows, &writes)?,
+        Form::Array => append_array(&mut text, &writes)?,
     }
     Ok(text)
 }
@@ -104,25 +105,25 @@ fn too_long() -> TraceFault
     Refusal::TooLong.whole().at_row(0)
 }
 
-/// Writes the writes for a plan in a text, for a hart after reset and these bits of `mseccfg`.
+/// Writes the writes for a plan in a text, from these registers.
 ///
 /// The text is complete before its first byte is written, so every refusal but `Output` leaves the output untouched.
 pub fn write_plan<W: Write>(
     alloc: Global,
-    hart: Hart,
-    security: Security,
+    start: &RegFile,
+    aim: Aim,
     form: Form,
     text: &[u8],
     writer: &mut W,
 ) -> Result<(), AnswerFault>
-    ensures ok { OnOk result (PlanSays hart security form text.now (W.contents writer.old) (W.contents writer.new)) }
-    ensures err { IfErr result (PlanFails hart security form text.now (W.contents writer.old) (W.contents writer.new)) }
+    ensures ok { OnOk result (PlanSays start.now aim form text.now (W.contents writer.old) (W.contents writer.new)) }
+    ensures err { IfErr result (PlanFails start.now aim form text.now (W.contents writer.old) (W.contents writer.new)) }
 {
     if text.len() > MAX_SCRIPT {
         return Err(AnswerFault::Text(too_long()));
     }
     let rows = read_plan(alloc, text)?;
-    let told = told(alloc, hart, security, form, &rows)?;
+    let told = told(alloc, start, aim, form, &rows)?;
     write_out(writer, &told)?;
     Ok(())
 }

@@ -39,6 +39,8 @@ pub enum PlanFault {
     },
     /// The bounded search found no entries. There may be some.
     Stopped,
+    /// No order of writes was found that is as safe as was asked for. There may be one.
+    NoOrder,
     Memory,
 }
 
@@ -54,6 +56,7 @@ impl PlanFault {
             PlanFault::NotHeld => Refusal::NotHeld,
             PlanFault::FewEntries { .. } => Refusal::FewEntries,
             PlanFault::Stopped => Refusal::Stopped,
+            PlanFault::NoOrder => Refusal::NoOrder,
             PlanFault::Memory => Refusal::Memory,
         }
     }

@@ -1,25 +1,15 @@
 //! Whether a register file meets a plan.
 
-ghost use Rattle.std.specs.Prelude.{◌<◌, All, IfSome, IsTrue, length};
+ghost use Rattle.std.specs.Prelude.{◌<◌, All, IsTrue};
 ghost use Rattle.pmp_core.specs.declared.access.TheConstants.{ADDRESS_LIMIT};
 ghost use Rattle.pmp_plan.specs.Plans.{MeetsPlan, MeetsRow};
-ghost use Rattle.pmp_plan.specs.Walks.{GivesFrom, GivesRest, OwnerGives};
+ghost use Rattle.pmp_plan.specs.Walks.{GivesFrom, GivesRest};
 
 use crate::plan_row::{Demand, PlanRow};
-use crate::rows::{row_at, unnamed_to};
 use crate::security::Security;
-use pmp_core::{ADDRESS_LIMIT, Csr, Hart, RegFile, Registers};
-use pmp_map::{ModeRights, is_held, run_around};
-
-/// Whether bytes of this owner are given what is asked for.
-fn owner_gives(registers: &Registers<'_>, owner: Option<u8>, demand: Demand) -> bool
-    requires { IfSome owner (λ entry. entry < length registers.now.entries) }
-    ensures yes { IsTrue result → OwnerGives registers.now owner demand }
-    ensures no { OwnerGives registers.now owner demand → IsTrue result }
-{
-    let rights = ModeRights::of_owner(registers, owner);
-    rights == demand.rights && (!demand.is_locked || is_held(registers, owner))
-}
+use crate::unmet::{first_unmet, first_unmet_rest};
+use pmp_core::{Csr, Hart, RegFile, Registers};
+use pmp_map::ModeRights;
 
 /// Whether each byte from `first` to `last` is given what is asked for.
 fn gives(registers: &Registers<'_>, first: u64, last: u64, demand: Demand) -> bool
@@ -27,15 +17,10 @@ fn gives(registers: &Registers<'_>, first: u64, last: u64, demand: Demand) -> bo
     ensures yes { IsTrue result → GivesFrom registers.now demand first last }
     ensures no { GivesFrom registers.now demand first last → IsTrue result }
 {
-    let mut at = first;
-    while at <= last {
-        let run = run_around(registers, at);
-        if !owner_gives(registers, run.owner, demand) {
-            return false;
-        }
-        at = run.last + 1;
+    match first_unmet(registers, first, last, demand) {
+        Some(_) => false,
+        None => true,
     }
-    true
 }
 
 /// Whether each byte that is in no row is given these rights.
@@ -43,23 +28,7 @@ fn gives_rest(registers: &Registers<'_>, rows: &[PlanRow<'_>], rights: ModeRight
     ensures yes { IsTrue result → GivesRest registers.now rows.now rights ADDRESS_LIMIT }
     ensures no { GivesRest registers.now rows.now rights ADDRESS_LIMIT → IsTrue result }
 {
-    let demand = Demand {
-        rights,
-        is_locked: false,
-    };
-    let mut at = 0;
-    while at < ADDRESS_LIMIT {
-        if let Some(row) = row_at(rows, at) {
-            at = row.last + 1;
-            continue;
-        }
-        let last = unnamed_to(rows, at);
-        if !gives(registers, at, last, demand) {
-            return false;
-        }
-        at = last + 1;
-    }
-    true
+    first_unmet_rest(registers, rows, rights).is_none()
 }
 
 /// Whether each row is met.

@@ -4,35 +4,53 @@
 //! plan. The definitions that the contracts cite are in `specs/`.
 #![tactic(auto)]
 
+mod aim;
 mod answer;
 mod array;
 mod choices;
 mod cost;
 mod fault;
 mod judge;
+mod layout;
+mod leading;
+mod letters;
 mod level;
 mod moves;
+mod order;
 mod parts;
+mod passing;
 mod plan_of;
 mod plan_row;
 mod planning;
 mod reading;
+mod room_plan;
 mod row_faults;
+mod row_list;
 mod rows;
 mod script;
 mod search;
 mod security;
 mod soundness;
 mod state;
+mod unmet;
+mod verdicts;
 mod writes;
 
+pub use aim::{Aim, Watch};
 pub use answer::{AnswerFault, Form, write_plan};
 pub use array::append_array;
 pub use fault::PlanFault;
 pub use judge::meets;
-pub use plan_of::write_plan_of;
+pub use leading::plan;
+pub use level::{SEARCH_ROOM, search_room};
+pub use passing::leads;
+pub use plan_of::{registers_after, write_plan_of};
 pub use plan_row::{Demand, PlanRow};
-pub use planning::{Planned, plan};
-pub use reading::read_plan;
+pub use reading::{read_plan, read_plan_to};
+pub use room_plan::append_plan;
+pub use row_list::RowList;
 pub use script::append_script;
 pub use security::Security;
+pub use state::State;
+pub use unmet::Unmet;
+pub use verdicts::append_verdicts;

@@ -1,11 +1,10 @@
 //! The possible next entries.
 
 use crate::choices::{LOCK, holds};
-use crate::level::Level;
+use crate::level::Levels;
 use crate::parts::{PARTS, Parts};
 use crate::state::{Chosen, State};
 use pmp_core::ByteRange;
-use std::alloc::AllocError;
 
 /// The field A of a configuration byte: top of range.
 const TOR: u8 = 8;
@@ -15,13 +14,6 @@ const NA4: u8 = 16;
 
 /// The field A of a configuration byte: a naturally aligned power of two of eight bytes or more.
 const NAPOT: u8 = 24;
-
-/// The states that one more entry leads to, and those that two more lead to.
-#[derive(Drop)]
-pub struct Next<'a> {
-    pub one: &'a mut Level,
-    pub two: &'a mut Level,
-}
 
 /// An entry for the rest of a part: its rule, and where it may match.
 #[derive(Clone, Copy)]
@@ -65,38 +57,35 @@ impl Candidate {
     }
 
     /// Takes the largest block.
-    fn take_block(&self, parts: &Parts, from: &State, next: &mut Level) -> Result<(), AllocError> {
-        match parts.block_at(self.first, self.room) {
-            Some(block) => {
-                let entry = self.block_entry(block);
-                next.offer(from.behind(parts, entry, block, self.is_frozen))
-            }
-            None => Ok(()),
+    fn take_block(&self, parts: &Parts, from: &State, levels: &mut Levels<'_>) {
+        if let Some(block) = parts.block_at(self.first, self.room) {
+            let entry = self.block_entry(block);
+            levels.offer(from.behind(parts, entry, block, self.is_frozen));
         }
     }
 
     /// Takes the longest range, from where the last entry ends.
-    fn take_chain(&self, parts: &Parts, from: &State, next: &mut Level) -> Result<(), AllocError> {
+    fn take_chain(&self, parts: &Parts, from: &State, levels: &mut Levels<'_>) {
         let end = parts.top_at(self.room.end);
         match from.chain {
             Some(start) if self.room.start <= start && start <= self.first && self.first < end => {
                 let entry = self.top_entry(end);
-                next.offer(from.behind(parts, entry, ByteRange { start, end }, self.is_frozen))
+                levels.offer(from.behind(parts, entry, ByteRange { start, end }, self.is_frozen));
             }
-            _ => Ok(()),
+            _ => {}
         }
     }
 
     /// Takes the longest range, and before it an entry that is OFF for its beginning.
-    fn take_two(&self, parts: &Parts, from: &State, next: &mut Level) -> Result<(), AllocError> {
+    fn take_two(&self, parts: &Parts, from: &State, levels: &mut Levels<'_>) {
         let (start, end) = (self.first, parts.top_at(self.room.end));
         if end <= start {
-            return Ok(());
+            return;
         }
         let low = self.low_entry();
         let between = from.behind(parts, low, ByteRange::EMPTY, self.is_frozen);
         let entry = self.top_entry(end);
-        next.offer(between.behind(parts, entry, ByteRange { start, end }, self.is_frozen))
+        levels.offer(between.behind(parts, entry, ByteRange { start, end }, self.is_frozen));
     }
 }
 
@@ -118,18 +107,17 @@ fn candidate_for(parts: &Parts, from: &State, index: usize, rule: u8) -> Option<
 }
 
 /// Offers the states that one more entry, or two, leads to.
-pub fn expand(parts: &Parts, from: &State, next: &mut Next<'_>) -> Result<(), AllocError> {
+pub fn expand(parts: &Parts, from: &State, levels: &mut Levels<'_>) {
     for index in 0..PARTS {
         for choice in parts.list[index].choices {
             let Some(rule) = choice else {
                 continue;
             };
             if let Some(candidate) = candidate_for(parts, from, index, rule) {
-                candidate.take_block(parts, from, next.one)?;
-                candidate.take_chain(parts, from, next.one)?;
-                candidate.take_two(parts, from, next.two)?;
+                candidate.take_block(parts, from, levels);
+                candidate.take_chain(parts, from, levels);
+                candidate.take_two(parts, from, levels);
             }
         }
     }
-    Ok(())
 }

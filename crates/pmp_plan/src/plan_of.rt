@@ -1,35 +1,22 @@
 //! The plan that registers implement.
 
 ghost use Rattle.std.specs.Prelude.{◌≡◌, ◌<◌, IfErr, IfOk, IfSome, IsTrue, OnOk, length};
-ghost use Rattle.pmp_plan.specs.PlansOf.{HasNoPlan, IsPlanOf, IsPlanOfScript, PlanOfFails, PlanOfSays};
+ghost use Rattle.pmp_plan.specs.PlansOf.{HasNoPlan, IsPlanOf, IsPlanOfScript, Leaves, LeavesNone, PlanOfFails, PlanOfSays};
 
 use crate::answer::AnswerFault;
 use crate::fault::PlanFault;
 use crate::judge::meets;
+use crate::letters::{Letters, yes_no};
 use crate::plan_row::Demand;
 use crate::reading::{HEADER, read_plan};
 use crate::row_faults::overlap;
 use crate::security::Security;
-use pmp_core::{ADDRESS_LIMIT, Csr, Kind, Perms, RegFile, Registers};
+use pmp_core::{ADDRESS_LIMIT, RegFile, Registers};
 use pmp_map::{ModeRights, Run, is_held, run_around};
 use pmp_text::{GrowingLog, NoMemory, append_line, read_script, write_out};
 use std::alloc::Global;
 use std::fmt;
 use std::io::Write;
-
-/// Rights as a plan writes them.
-#[derive(Clone, Copy)]
-struct Letters(Perms);
-
-impl fmt::Display for Letters {
-    fn fmt<W: fmt::Write>(&self, f: &mut fmt::Formatter<W>) -> fmt::Result {
-        for (kind, letter) in [(Kind::Load, "r"), (Kind::Store, "w"), (Kind::Fetch, "x")] {
-            let shown = if self.0.allows(kind) { letter } else { "-" };
-            write!(f, "{shown}")?;
-        }
-        Ok(())
-    }
-}
 
 /// The name of a row, derived from the entry that owns its bytes.
 #[derive(Clone, Copy)]
@@ -56,22 +43,12 @@ impl fmt::Display for RunRow {
         let (first, last) = (self.run.first, self.run.last);
         let machine = Letters(self.demand.rights.machine);
         let others = Letters(self.demand.rights.others);
-        let locked = if self.demand.is_locked { "yes" } else { "no" };
+        let locked = yes_no(self.demand.is_locked);
         let name = Owned(self.run.owner);
         write!(
             f,
             "0x{first:x},0x{last:x},{machine},{others},{locked},{name}\n"
         )
-    }
-}
-
-/// Returns the bits of `mseccfg` that a register file has.
-fn security_of(file: &RegFile) -> Security {
-    let value = file.read(Csr::Mseccfg);
-    Security {
-        mml: value % 2 == 1,
-        mmwp: value / 2 % 2 == 1,
-        rlb: value / 4 % 2 == 1,
     }
 }
 
@@ -117,16 +94,25 @@ fn is_plan_of(alloc: Global, text: &[u8], file: &RegFile, security: Security) ->
     }
 }
 
-/// Returns the plan that the final registers of a script implement: it is read back, and checked against them.
-fn plan_text(alloc: Global, script: &[u8]) -> Result<Vec<u8>, AnswerFault>
-    ensures ok { IfOk result (λ text. IsPlanOfScript script.now text.items) }
-    ensures err { IfErr result (HasNoPlan script.now) }
+/// Returns the registers after all publications of a script.
+pub fn registers_after(alloc: Global, script: &[u8]) -> Result<RegFile, AnswerFault>
+    ensures ok { IfOk result (Leaves script.now) }
+    ensures err { IfErr result (LeavesNone script.now) }
 {
     let mut log = GrowingLog::new(alloc);
     let script = read_script(&mut log, script)?;
     let mut file = script.start();
     file.run_events(script.events());
-    let security = security_of(&file);
+    Ok(file)
+}
+
+/// Returns the plan that the final registers of a script implement: it is read back, and checked against them.
+fn plan_text(alloc: Global, script: &[u8]) -> Result<Vec<u8>, AnswerFault>
+    ensures ok { IfOk result (λ text. IsPlanOfScript script.now text.items) }
+    ensures err { IfErr result (HasNoPlan script.now) }
+{
+    let file = registers_after(alloc, script)?;
+    let security = Security::of(&file);
     let text = text_of(alloc, &file, security)?;
     if !is_plan_of(alloc, &text, &file, security) {
         return Err(AnswerFault::Plan(PlanFault::Memory));

@@ -116,6 +116,23 @@ impl<'a> Words<'a> {
     }
 }
 
+impl Default for PlanRow<'_> {
+    fn default() -> Self {
+        PlanRow {
+            first: 0,
+            last: 0,
+            demand: Demand {
+                rights: ModeRights {
+                    machine: Perms::NONE,
+                    others: Perms::NONE,
+                },
+                is_locked: false,
+            },
+            name: &[],
+        }
+    }
+}
+
 impl<'a> PlanRow<'a> {
     ghost use Rattle.pmp_plan.specs.PlanTexts.{row_said};
     ghost use Rattle.pmp_plan.specs.Plans.{is_in};

@@ -1,4 +1,4 @@
-//! The registers of a plan.
+//! The writes for a plan after a reset.
 
 ghost use Rattle.std.specs.Prelude.{◌≡◌, ◌<◌, ◌≤◌, [], ℕ, IfErr, IfOk, IfSome, IsTrue, false, length};
 ghost use Rattle.pmp_core.specs.Histories.{replay};
@@ -18,12 +18,10 @@ use crate::state::{Chosen, State};
 use crate::writes::{WRITES, writes_of};
 use arrayvec::ArrayVec;
 use pmp_core::{Csr, Event, Hart, MAX_ENTRIES, Profile, RegFile};
-use std::alloc::Global;
 
 /// Writes to a hart after reset that leave registers which meet a plan.
 #[derive(Drop)]
 pub struct Planned {
-    pub hart: Hart,
     /// The number of entries they write.
     pub entries: usize,
     pub writes: ArrayVec<Event, WRITES>,
@@ -37,7 +35,6 @@ fn judged(
     entries: &[Chosen],
 ) -> Option<Planned>
     ensures met { IfSome result (λ planned. MeetsPlan hart security rows.now (replay hart planned.writes.items)) }
-    ensures hart { IfSome result (λ planned. planned.hart ≡ hart) }
 {
     let writes = writes_of(hart, security, entries);
     let mut file = RegFile::reset_on(hart);
@@ -46,7 +43,6 @@ fn judged(
         return None;
     }
     Some(Planned {
-        hart,
         entries: entries.len(),
         writes,
     })
@@ -97,7 +93,7 @@ fn costliest(parts: &Parts, state: &State, rows: &[PlanRow<'_>]) -> (usize, usiz
 
 /// Returns the writes for a sound plan with rows.
 fn found(
-    alloc: Global,
+    room: &mut [State],
     hart: Hart,
     security: Security,
     rows: &[PlanRow<'_>],
@@ -105,11 +101,10 @@ fn found(
     requires sound { IsSound hart security rows.now }
     requires rows { 0 < length rows.now }
     ensures met { IfOk result (λ planned. MeetsPlan hart security rows.now (replay hart planned.writes.items)) }
-    ensures hart { IfOk result (λ planned. planned.hart ≡ hart) }
     ensures err { IfErr result (Refuses hart security rows.now) }
 {
     let parts = Parts::of(hart, security, rows).ok_or(PlanFault::Stopped)?;
-    let state = search(alloc, &parts)?.ok_or(PlanFault::Stopped)?;
+    let state = search(room, &parts, State::beginning(&parts)).ok_or(PlanFault::Stopped)?;
     let found = state.count.max(1);
     if found <= usize::from(hart.entries()) {
         return judged(hart, security, rows, state.entries()).ok_or(PlanFault::Stopped);
@@ -138,10 +133,9 @@ fn of_no_rows(hart: Hart, security: Security) -> Planned
     requires kept { hart.has_smepmp ≡ false → security ≡ no_security }
     ensures met { (count : ℕ) → 0 < count → let of = record hart { entries = count } in
         MeetsPlan of security [] (replay of result.writes.items) }
-    ensures hart { result.hart ≡ hart }
+    ensures none { result.entries ≡ 0 }
 {
     Planned {
-        hart,
         entries: 0,
         writes: security_writes(security),
     }
@@ -153,21 +147,21 @@ fn of_no_rows(hart: Hart, security: Security) -> Planned
 /// The writes are run on a unit of the hart, and judged, before they are returned, so the search can only refuse. The
 /// first of these is reported: two rows that have a byte in common; a row that begins or ends inside a grain, or has
 /// bytes above the hart's addresses; a bit of `mseccfg` that the hart doesn't keep; a row whose rights no entry gives;
-/// more entries than there are; `Stopped`, which a plan without rows never is.
-pub fn plan(
-    alloc: Global,
+/// more entries than there are; `Stopped`, which a plan without rows never is. The search has the room, of
+/// `SEARCH_ROOM` states.
+pub fn plan_at_reset(
+    room: &mut [State],
     hart: Hart,
     security: Security,
     rows: &[PlanRow<'_>],
 ) -> Result<Planned, PlanFault>
     ensures met { IfOk result (λ planned. MeetsPlan hart security rows.now (replay hart planned.writes.items)) }
-    ensures hart { IfOk result (λ planned. planned.hart ≡ hart) }
     ensures sound { IfOk result (λ planned. IsSound hart security rows.now) }
     ensures err { IfErr result (Refuses hart security rows.now) }
 {
     check_plan(hart, security, rows)?;
     if !rows.is_empty() {
-        return found(alloc, hart, security, rows);
+        return found(room, hart, security, rows);
     }
     let planned = of_no_rows(hart, security);
     if hart.entries() == 0 {

@@ -7,8 +7,9 @@ ghost use Rattle.pmp_plan.specs.PlanTexts.{no_header, plan_said, rows_from};
 ghost use Rattle.pmp_plan.specs.KeptRows.{AddsRow, IsFaultOf, said};
 
 use crate::plan_row::PlanRow;
+use crate::row_list::RowList;
 use pmp_text::{Refusal, TraceFault, split_first_line};
-use std::alloc::{AllocError, Global};
+use std::alloc::Global;
 
 /// The first line of a plan.
 pub const HEADER: &[u8] = b"first,last,m,su,locked,name";
@@ -29,40 +30,44 @@ pub fn read_plan<'a>(alloc: Global, text: &'a [u8]) -> Result<Vec<PlanRow<'a>>, 
     ensures ok { IfOk result (λ rows. plan_said text.now ≡ Ok (map said rows.items)) }
     ensures err { IfErr result (λ fault. (fault ≡ no_memory_for_rows) ⊎ (plan_said text.now ≡ Err fault)) }
 {
+    let mut rows = Vec::new(alloc);
+    read_plan_to(&mut rows, text)?;
+    Ok(rows)
+}
+
+/// Puts the rows in a text into a list, in the place of those that it has.
+pub fn read_plan_to<'a, L: RowList<'a>>(rows: &mut L, text: &'a [u8]) -> Result<(), TraceFault>
+    ensures ok { OnOk result (plan_said text.now ≡ Ok (map said (L.kept rows.new))) }
+    ensures err { IfErr result (λ fault. (fault ≡ no_memory_for_rows) ⊎ (plan_said text.now ≡ Err fault)) }
+{
     match split_first_line(text) {
-        Some((header, rows)) if header == HEADER => read_rows(alloc, rows),
+        Some((header, behind)) if header == HEADER => read_rows(rows, behind),
         _ => Err(no_header()),
     }
 }
 
-fn read_rows<'a>(alloc: Global, text: &'a [u8]) -> Result<Vec<PlanRow<'a>>, TraceFault>
-    ensures ok { IfOk result (λ rows. rows_from 1 (lines text.now) ≡ Ok (map said rows.items)) }
+fn read_rows<'a, L: RowList<'a>>(rows: &mut L, text: &'a [u8]) -> Result<(), TraceFault>
+    ensures ok { OnOk result (rows_from 1 (lines text.now) ≡ Ok (map said (L.kept rows.new))) }
     ensures err { IfErr result (λ fault. (fault ≡ no_memory_for_rows) ⊎ (rows_from 1 (lines text.now) ≡ Err fault)) }
 {
-    let mut rows = Vec::new(alloc);
+    rows.clear();
     let mut number = 1u64;
     let mut rest = text;
     while let Some((line, behind)) = split_first_line(rest) {
-        add(&mut rows, line, number)?;
+        add(rows, line, number)?;
         number = number.saturating_add(1);
         rest = behind;
-    }
-    Ok(rows)
-}
-
-fn add<'a>(rows: &mut Vec<PlanRow<'a>>, line: &'a [u8], number: u64) -> Result<(), TraceFault>
-    ensures ok { OnOk result (AddsRow line.now rows.old.items rows.new.items) }
-    ensures err { IfErr result (λ fault. (fault ≡ no_memory_for_rows) ⊎ IsFaultOf line.now number fault) }
-{
-    match PlanRow::read(line) {
-        Ok(row) => push(rows, row)?,
-        Err(flaw) => return Err(flaw.at_row(number)),
     }
     Ok(())
 }
 
-fn push<'a>(rows: &mut Vec<PlanRow<'a>>, row: PlanRow<'a>) -> Result<(), AllocError>
-    ensures { OnOk result (rows.new.items ≡ rows.old.items ++ row.entry ∷ []) }
+fn add<'a, L: RowList<'a>>(rows: &mut L, line: &'a [u8], number: u64) -> Result<(), TraceFault>
+    ensures ok { OnOk result (AddsRow line.now (L.kept rows.old) (L.kept rows.new)) }
+    ensures err { IfErr result (λ fault. (fault ≡ no_memory_for_rows) ⊎ IsFaultOf line.now number fault) }
 {
-    Ok(rows.push(row)?)
+    match PlanRow::read(line) {
+        Ok(row) => rows.push(row)?,
+        Err(flaw) => return Err(flaw.at_row(number)),
+    }
+    Ok(())
 }

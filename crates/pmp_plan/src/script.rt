@@ -3,18 +3,17 @@
 ghost use Rattle.std.specs.Prelude.{◌≡◌, ◌++◌, IsTrue, List, ℕ, OnErr, OnOk};
 ghost use Rattle.pmp_plan.specs.PlanScripts.{MeansPlan};
 
-use crate::judge::meets;
+use crate::aim::Aim;
+use crate::passing::leads;
 use crate::plan_row::PlanRow;
-use crate::planning::Planned;
-use crate::security::Security;
 use crate::writes::WRITES;
 use arrayvec::ArrayVec;
-use pmp_core::{BATCH_EVENTS, Event, Hart, RegFile};
+use pmp_core::{BATCH_EVENTS, Event, RegFile};
 use pmp_text::{FixedLog, NoMemory, RegisterName, Sink, append_line, read_script, write_script};
 use std::fmt;
 
-/// The greatest length of a script in bytes: a head, and a line for each write.
-const SCRIPT: usize = 8192;
+/// The greatest length of a script in bytes: a head with all registers, and a line for each write.
+const SCRIPT: usize = 16384;
 
 /// The line of an event.
 #[derive(Clone, Copy)]
@@ -32,10 +31,11 @@ impl fmt::Display for EventLine {
     }
 }
 
-/// Returns the script by itself: the hart, and the writes, with a publication after the last and wherever one is full.
-fn script_of(hart: Hart, writes: &[Event]) -> Result<ArrayVec<u8, SCRIPT>, NoMemory> {
+/// Returns the script by itself: the registers, and the writes, with a publication after the last and wherever one is
+/// full.
+fn script_of(start: &RegFile, writes: &[Event]) -> Result<ArrayVec<u8, SCRIPT>, NoMemory> {
     let mut text = ArrayVec::new();
-    write_script(&mut text, &RegFile::reset_on(hart))?;
+    write_script(&mut text, start)?;
     for (index, event) in writes.iter().enumerate() {
         if index > 0 && index % BATCH_EVENTS == 0 {
             text.append(b"publish\n")?;
@@ -46,36 +46,35 @@ fn script_of(hart: Hart, writes: &[Event]) -> Result<ArrayVec<u8, SCRIPT>, NoMem
     Ok(text)
 }
 
-/// Whether the text reads as a script that begins with a reset and leaves registers that meet the plan.
-fn means_plan(text: &[u8], hart: Hart, security: Security, rows: &[PlanRow<'_>]) -> bool
-    ensures { IsTrue result → MeansPlan hart security rows.now text.now }
+/// Whether the text reads as a script that begins with these registers, and whose writes lead to the plan.
+fn means_plan(text: &[u8], start: &RegFile, aim: Aim, rows: &[PlanRow<'_>]) -> bool
+    ensures { IsTrue result → MeansPlan start.now aim rows.now text.now }
 {
     let mut log = FixedLog::<WRITES, 4, 1, 1>::new();
     let Ok(script) = read_script(&mut log, text) else {
         return false;
     };
-    let mut file = script.start();
-    if file != RegFile::reset_on(hart) {
+    if script.start().save() != start.save() {
         return false;
     }
-    file.run_events(script.events());
-    meets(&file, hart, security, rows)
+    leads(start, aim, rows, script.events())
 }
 
-/// Appends the script of version 3 that makes these writes on a hart after reset, if the registers that it leaves meet
-/// the plan: it is read back and judged before it is appended.
+/// Appends the script of version 3 that begins with these registers and makes these writes, if they lead to the plan:
+/// it is read back and judged before it is appended.
 pub fn append_script<S: Sink>(
     out: &mut S,
-    planned: &Planned,
-    security: Security,
+    start: &RegFile,
+    aim: Aim,
     rows: &[PlanRow<'_>],
+    writes: &[Event],
 ) -> Result<(), NoMemory>
-    ensures ok { OnOk result ((text : List ℕ) × MeansPlan planned.now.hart security rows.now text
+    ensures ok { OnOk result ((text : List ℕ) × MeansPlan start.now aim rows.now text
         × (S.text out.new ≡ S.text out.old ++ text)) }
     ensures err { OnErr result (S.text out.new ≡ S.text out.old) }
 {
-    let text = script_of(planned.hart, &planned.writes)?;
-    if !means_plan(&text, planned.hart, security, rows) {
+    let text = script_of(start, writes)?;
+    if !means_plan(&text, start, aim, rows) {
         return Err(NoMemory);
     }
     out.append(&text)

@@ -1,44 +1,46 @@
 //! The search for a small number of entries for a plan.
 
-use crate::level::Level;
-use crate::moves::{Next, expand};
+use crate::level::Levels;
+use crate::moves::expand;
 use crate::parts::Parts;
 use crate::state::{FOUND, State};
-use std::alloc::{AllocError, Global};
 
-/// Returns the state whose entries give all that is asked for, if one is kept.
-fn finished(level: &Level) -> Option<State> {
-    for state in &level.states {
-        if state.cost == 0 {
-            return Some(*state);
+/// Returns the state with this number of entries that give all that is asked for, if one is kept.
+fn finished(levels: &Levels<'_>, entries: usize) -> Option<State> {
+    for index in 0..levels.count(entries) {
+        match levels.state(entries, index) {
+            Some(state) if state.cost == 0 => return Some(*state),
+            _ => {}
         }
     }
     None
 }
 
-/// Returns as few entries as are found for the parts, or none if the greatest number was not enough.
+/// Offers the states that those with this number of entries lead to.
+fn expand_all(parts: &Parts, levels: &mut Levels<'_>, entries: usize) {
+    for index in 0..levels.count(entries) {
+        if let Some(state) = levels.state(entries, index) {
+            let state = *state;
+            expand(parts, &state, levels);
+        }
+    }
+    levels.clear(entries);
+}
+
+/// Returns as few entries as are found for the parts, behind those of a state, or none if the greatest number was not
+/// enough, or the room was too small.
 ///
 /// This is a beam search. A state is what the first entries leave of each part, and where a TOR entry after them could
 /// begin; a move is the largest naturally aligned block or the longest range around the rest of a part, across what
-/// earlier entries own. `Level` keeps the best states of each number of entries.
-pub fn search(alloc: Global, parts: &Parts) -> Result<Option<State>, AllocError> {
-    let mut here = Level::new(alloc);
-    let mut one = Level::new(alloc);
-    here.offer(State::beginning(parts))?;
-    for _entries in 0..FOUND {
-        if let Some(state) = finished(&here) {
-            return Ok(Some(state));
+/// earlier entries own. `Levels` keeps the best states of each number of entries.
+pub fn search(room: &mut [State], parts: &Parts, from: State) -> Option<State> {
+    let mut levels = Levels::new(room);
+    levels.offer(from);
+    for entries in from.count..FOUND {
+        if let Some(state) = finished(&levels, entries) {
+            return Some(state);
         }
-        let mut two = Level::new(alloc);
-        let mut next = Next {
-            one: &mut one,
-            two: &mut two,
-        };
-        for state in &here.states {
-            expand(parts, state, &mut next)?;
-        }
-        here = one;
-        one = two;
+        expand_all(parts, &mut levels, entries);
     }
-    Ok(None)
+    None
 }

@@ -2,8 +2,9 @@
 
 ghost use Rattle.std.specs.Prelude.{◌≡◌};
 ghost use Rattle.pmp_plan.specs.Plans.{rest_rights, security_value};
+ghost use Rattle.pmp_plan.specs.Routes.{security_in};
 
-use pmp_core::Perms;
+use pmp_core::{Csr, Perms, RegFile};
 use pmp_map::ModeRights;
 
 /// The bits of `mseccfg` (Smepmp) that a plan is for.
@@ -27,6 +28,18 @@ impl Security {
         mmwp: false,
         rlb: true,
     };
+
+    /// Returns the bits that a register file has.
+    pub fn of(file: &RegFile) -> Security
+        ensures { result ≡ security_in file.now }
+    {
+        let value = file.read(Csr::Mseccfg);
+        Security {
+            mml: value % 2 == 1,
+            mmwp: value / 2 % 2 == 1,
+            rlb: value / 4 % 2 == 1,
+        }
+    }
 
     /// Returns the register's value.
     pub fn value(self) -> u64

@@ -31,14 +31,10 @@ pub struct State {
 }
 
 impl State {
-    /// Returns the state without entries.
-    pub fn beginning(parts: &Parts) -> State {
-        let mut left = [ByteRange::EMPTY; PARTS];
-        for index in 0..PARTS {
-            left[index] = parts.list[index].bytes;
-        }
-        let mut state = State {
-            left,
+    /// Returns the state in which nothing is left.
+    pub fn new() -> State {
+        State {
+            left: [ByteRange::EMPTY; PARTS],
             chain: Some(0),
             is_frozen: true,
             cost: 0,
@@ -48,7 +44,15 @@ impl State {
                 part: 0,
             }; FOUND],
             count: 0,
-        };
+        }
+    }
+
+    /// Returns the state without entries.
+    pub fn beginning(parts: &Parts) -> State {
+        let mut state = State::new();
+        for index in 0..PARTS {
+            state.left[index] = parts.list[index].bytes;
+        }
         state.cost = cost(parts, &state.left, state.chain);
         state
     }

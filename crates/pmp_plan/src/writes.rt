@@ -5,11 +5,12 @@ use crate::state::Chosen;
 use arrayvec::ArrayVec;
 use pmp_core::{Csr, Event, Hart};
 
-/// The greatest number of writes: `mseccfg` three times, each address register, and each configuration register twice.
-pub const WRITES: usize = 128;
+/// The greatest number of writes. After a reset a hart needs `mseccfg` three times, each address register, and each
+/// configuration register twice; on the way from other registers, where an entry may be written several times, more.
+pub const WRITES: usize = 256;
 
 /// The number of configuration register numbers.
-const CONFIGURATIONS: u8 = 16;
+pub const CONFIGURATIONS: u8 = 16;
 
 /// Writes in their order.
 #[derive(Drop)]
@@ -20,17 +21,18 @@ struct Writes {
 }
 
 /// Whether a configuration is stored only while MML is 1: W without R.
-fn needs_lockdown(entry: &Chosen) -> bool {
-    entry.configuration % 4 == 2
+fn needs_lockdown(configuration: u8) -> bool {
+    configuration % 4 == 2
 }
 
 /// Returns the byte of an entry until MML is 1. A locked rule of W without R, by which M-mode executes, is replaced by
-/// one of R and X, by which it does so before MML is 1 and after.
-fn before_lockdown(entry: &Chosen) -> u8 {
-    match entry.configuration {
-        configuration if !needs_lockdown(entry) => configuration,
-        configuration if configuration >= 0x80 => configuration & !7 | 5,
-        _ => 0,
+/// one of X, by which it does so before MML is 1 and after, and of R if M-mode reads there too.
+pub fn before_lockdown(configuration: u8) -> u8 {
+    match configuration {
+        configuration if !needs_lockdown(configuration) => configuration,
+        configuration if configuration < 0x80 => 0,
+        configuration if configuration / 4 % 2 == 1 => configuration & !7 | 5,
+        configuration => configuration & !7 | 4,
     }
 }
 
@@ -41,7 +43,7 @@ fn word(entries: &[Chosen], first: usize, count: usize, is_locked_down: bool) ->
         match entries.get(first.saturating_add(place)) {
             Some(entry) if place >= count => {}
             Some(entry) if is_locked_down => bytes[place] = entry.configuration,
-            Some(entry) => bytes[place] = before_lockdown(entry),
+            Some(entry) => bytes[place] = before_lockdown(entry.configuration),
             None => {}
         }
     }
@@ -102,7 +104,10 @@ pub fn writes_of(hart: Hart, security: Security, entries: &[Chosen]) -> ArrayVec
             rlb: true,
             ..security
         });
-        if entries.iter().any(needs_lockdown) {
+        if entries
+            .iter()
+            .any(|entry| needs_lockdown(entry.configuration))
+        {
             writes.push_configurations(hart, entries, true);
         }
     }

@@ -20,19 +20,20 @@ use Rattle.pmp_tool.specs.declared.outcome.Outcome.{Outcome}
 use Rattle.pmp_tool.specs.declared.outcome.Outcome.TheVariants.{Told}
 use Rattle.pmp_tool.specs.declared.request.Import.{Import}
 use Rattle.pmp_tool.specs.declared.request.LongAudit.{LongAudit}
+use Rattle.pmp_tool.specs.declared.request.Plan.{Plan as AskedPlan}
 use Rattle.pmp_tool.specs.declared.request.Policy.{Policy as AskedPolicy}
 use Rattle.pmp_tool.specs.declared.request.Request.{Request}
 use Rattle.pmp_tool.specs.declared.request.Request.TheVariants as request
 use Rattle.pmp_tool.specs.CommandLines.{AsksForPieces, MayAskForText, WordsAskFor, pmp_app}
 use Rattle.pmp_tool.specs.Commands.{asked, task_of}
-use Rattle.pmp_core.specs.declared.hart.Profile.{Profile}
+use Rattle.pmp_core.specs.RegisterFile.{RegisterFile}
 use Rattle.pmp_plan.specs.PlanAnswers.{PlanFails, long, no_plan, no_writes}
 use Rattle.pmp_plan.specs.PlanAnswers.{no_output as no_plan_written}
 use Rattle.pmp_plan.specs.PlansOf.{PlanOfFails}
 use Rattle.pmp_plan.specs.PlansOf.{no_output as no_plan_of_written, no_plan as no_plan_of}
+use Rattle.pmp_plan.specs.declared.aim.Aim.{Aim}
 use Rattle.pmp_plan.specs.declared.answer.AnswerFault.{AnswerFault}
 use Rattle.pmp_plan.specs.declared.answer.Form.{Form}
-use Rattle.pmp_plan.specs.declared.security.Security.{Security}
 use Rattle.pmp_names.specs.declared.address_names.NamesFault.{NamesFault}
 use Rattle.pmp_names.specs.AddressNames.{Named, names_said}
 use Rattle.pmp_names.specs.NameLists.{no_memory as no_memory_for_names}
@@ -40,7 +41,7 @@ use Rattle.pmp_tool.specs.Failures.{failure_status, unaudited, unparsed, unparse
 use Rattle.pmp_tool.specs.Failures.{unnamed as unnamed_so}
 use Rattle.pmp_tool.specs.Inputs.{AreBytesOf, Inputs, Paths}
 use Rattle.pmp_tool.specs.Requests.{Declines, InputFails, MomentFails, PolicyFails, RequestFails, allowed, is_empty, taken}
-use Rattle.pmp_tool.specs.Requests.{unjudged, unnamed, untaken}
+use Rattle.pmp_tool.specs.Requests.{IsUnplanned, StartFails, started, unjudged, unnamed, unstarted, untaken}
 use Rattle.pmp_tool.specs.declared.harts.Harts.{Harts}
 use Rattle.pmp_tool.specs.declared.naming.Naming.{Naming}
 use Rattle.pmp_tool.specs.CommandAnswers.{CommandFails, no_script, of_script}
@@ -130,13 +131,20 @@ policy_keeps (unjudged failure declines) two = declines_keep declines two
 policy_keeps (is_empty summary text strict says none keeps) two = keeps
 
 -- nor did a plan
-plan_keeps : {hart : Profile} {security : Security} {form : Form} {plan : List ℕ} {before after : Option (List ℕ)}
-    {fault : AnswerFault} → PlanFails hart security form plan before after fault
+plan_keeps : {start : RegisterFile} {aim : Aim} {form : Form} {plan : List ℕ} {before after : Option (List ℕ)}
+    {fault : AnswerFault} → PlanFails start aim form plan before after fault
     → failure_status (unplanned fault) ≡ 2 → Keeps before after
 plan_keeps (long more keeps) two = keeps
 plan_keeps (no_plan fault why keeps) two = keeps
 plan_keeps (no_writes rows fault are refuses keeps) two = keeps
 plan_keeps (no_plan_written text told front) two = absurd cc
+
+start_keeps : {paths : Paths} {plan : AskedPlan} {text : List ℕ} {before after : Option (List ℕ)} {failure : Failure}
+    → StartFails before after paths plan
+    (λ start. IsUnplanned (PlanFails start plan.aim plan.form text before after)) failure
+    → failure_status failure ≡ 2 → Keeps before after
+start_keeps (unstarted failure none keeps) two = keeps
+start_keeps (started start failure is fails) two = plan_keeps fails.fails (sym (ap failure_status fails.is) ∙ two)
 
 plan_of_keeps : {script : List ℕ} {before after : Option (List ℕ)} {fault : AnswerFault}
     → PlanOfFails script before after fault → failure_status (unplanned fault) ≡ 2 → Keeps before after
@@ -170,8 +178,7 @@ module _ (before after : Option (List ℕ)) (paths : Paths) where
       moment_keeps fails (λ fails. declines_keep fails two))))
   request_keeps script (request.Harts has_locks) failure fails two = inr fails.1
   request_keeps script (request.Import import) failure fails two = inl (inr (import, refl))
-  request_keeps script (request.Plan plan) failure fails two =
-      inr (plan_keeps fails.fails (sym (ap failure_status fails.is) ∙ two))
+  request_keeps script (request.Plan plan) failure fails two = inr (start_keeps fails two)
   request_keeps script request.PlanOf failure fails two =
       inr (plan_of_keeps fails.fails (sym (ap failure_status fails.is) ∙ two))
 

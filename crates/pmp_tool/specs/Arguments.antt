@@ -72,6 +72,9 @@ rule_in argument.Mmwp = flag_rule (codes "mmwp")
 rule_in argument.Rlb = flag_rule (codes "rlb")
 rule_in argument.AsArray = flag_rule (codes "c")
 rule_in argument.Of = flag_rule (codes "of")
+rule_in argument.From = option_rule (codes "from")
+rule_in argument.Keep = flag_rule (codes "keep")
+rule_in argument.WhileM = flag_rule (codes "while-m")
 
 -- the id by which clap knows it
 abbrev pub id_of : Argument → Text
@@ -127,4 +130,5 @@ arguments_of Import =
     ∷ argument.AddressBits ∷ argument.Smepmp ∷ argument.Bursts ∷ argument.Folder ∷ []
 arguments_of Plan =
     argument.Plan ∷ argument.Explain ∷ argument.Xlen ∷ argument.Entries ∷ argument.Grain ∷ argument.AddressBits
-    ∷ argument.Smepmp ∷ argument.Mml ∷ argument.Mmwp ∷ argument.Rlb ∷ argument.AsArray ∷ argument.Of ∷ []
+    ∷ argument.Smepmp ∷ argument.Mml ∷ argument.Mmwp ∷ argument.Rlb ∷ argument.From ∷ argument.Keep ∷ argument.WhileM
+    ∷ argument.AsArray ∷ argument.Of ∷ []

@@ -29,7 +29,7 @@ use Rattle.pmp_audit.specs.declared.view.View.TheVariants.{Registers, Runs, Pict
 use Rattle.pmp_audit.specs.declared.view.View.TheVariants.{Script as AsScript}
 use Rattle.pmp_plan.specs.declared.answer.Form.{Form}
 use Rattle.pmp_plan.specs.declared.answer.Form.TheVariants.{Array, Script}
-use Rattle.pmp_plan.specs.declared.security.Security.{Security}
+use Rattle.pmp_plan.specs.declared.aim.Aim.{Aim}
 use Rattle.pmp_share.specs.declared.opening.TheConstants.{CHECKERS}
 use Rattle.pmp_tool.specs.declared.argument.Argument.{Argument}
 use Rattle.pmp_tool.specs.declared.argument.Argument.TheVariants as argument
@@ -45,7 +45,7 @@ use Rattle.pmp_text.specs.declared.refusal.Refusal.TheVariants.{BadFormat, BadLe
 use Rattle.pmp_tool.specs.declared.fault_line.FaultLine.{FaultLine}
 use Rattle.pmp_tool.specs.declared.word.Xlen.{Xlen}
 use Rattle.pmp_tool.specs.Arguments.{command_word, commands}
-use Rattle.pmp_tool.specs.HartWords.{hart_in, is_hart_said, security_in}
+use Rattle.pmp_tool.specs.HartWords.{aim_in, hart_in, says_aim, says_hart}
 use Rattle.pmp_tool.specs.Words.{and_then, asked_in, bad_word, count_in, expected_named, is_bare_word, is_set, is_stdin, is_used}
 use Rattle.pmp_tool.specs.Words.{needed_in, of_no_word, of_word, only_named, smepmp_named, word_in, xlen_named}
 
@@ -69,7 +69,7 @@ pub data Task : Type 0 where
   Diff : (new : Text) (old_after new_after : Option When) → AskedChanges → Task
   Harts : (has_locks : Bool) → Task
   Import : (log : Text) → Format → Options → (folder : Option Text) → Task
-  Plan : (hart : Profile) → Security → Form → Task
+  Plan : (from : Option Text) → (hart : Profile) → Aim → Form → Task
   PlanOf : Task
 
 abbrev pub access_task : Access → AccessTask
@@ -87,7 +87,7 @@ task_of (request.Lint accepted) = Lint accepted
 task_of (request.Diff diff) = Diff diff.new.now diff.old_after diff.new_after diff.changes
 task_of (request.Harts has_locks) = Harts has_locks
 task_of (request.Import log) = Import log.log.now log.format log.options (option_map (λ path. path.now) log.folder)
-task_of (request.Plan plan) = Plan plan.hart plan.security plan.form
+task_of (request.Plan plan) = Plan (option_map (λ path. path.now) plan.from) plan.hart plan.aim plan.form
 task_of request.PlanOf = PlanOf
 
 -- a task, and the path of the script
@@ -228,11 +228,21 @@ import_in rows =
 
 -- a script's registers have a hart and an mseccfg of their own
 abbrev pub plan_of_in : List Row → Result Task FaultLine
-plan_of_in rows = if is_hart_said rows || is_set argument.AsArray rows then Err (of_no_word BadWord) else Ok PlanOf
+plan_of_in rows =
+    if says_hart rows || (says_aim rows || is_set argument.AsArray rows) then Err (of_no_word BadWord) else Ok PlanOf
+
+-- the script that a plan's writes begin behind, which has a hart of its own
+abbrev pub from_in : List Row → Result (Option Text) FaultLine
+from_in rows =
+    if is_used argument.From rows then (
+    if says_hart rows then Err (of_no_word BadWord)
+    else and_then (second_in argument.From rows) (λ path. Ok (Some path))
+    ) else Ok None
 
 abbrev pub plan_in : List Row → Result Task FaultLine
-plan_in rows = if is_set argument.Of rows then plan_of_in rows else and_then (hart_in rows) (λ hart.
-    Ok (Plan hart (security_in rows) (if is_set argument.AsArray rows then Array else Script)))
+plan_in rows = if is_set argument.Of rows then plan_of_in rows else and_then (from_in rows) (λ from.
+    and_then (hart_in rows) (λ hart.
+    Ok (Plan from hart (aim_in rows) (if is_set argument.AsArray rows then Array else Script))))
 
 -- what a command's matches ask for, where addresses have names
 abbrev pub task_in : List Named → CommandName → List Row → Result Task FaultLine

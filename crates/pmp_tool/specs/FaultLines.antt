@@ -40,7 +40,8 @@ place_in_plan (fault.Overlap row other) = PlanRows (next_row row) (next_row othe
 place_in_plan (fault.TooFine row field) = plan_row TooFine row (Some field)
 place_in_plan (fault.PastEnd row) = plan_row PastEnd row None
 place_in_plan (fault.BadPair row) = plan_row BadPair row None
-place_in_plan (fault.FewEntries found row takes) = PlanEntries (next_row row) takes found
+place_in_plan (fault.FewEntries found row takes) =
+    if takes == 0 then Nowhere else PlanEntries (next_row row) takes found
 place_in_plan _ = Nowhere
 
 -- the same for names

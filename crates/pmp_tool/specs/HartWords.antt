@@ -1,11 +1,12 @@
 -- The hart that the command line describes.
-use Rattle.std.specs.Prelude.{ℕ, Bool, true, false, ◌||◌, List, Option, Some, None, option_map, unwrap_or}
+use Rattle.std.specs.Prelude.{ℕ, Bool, true, false, ◌||◌, if◌then◌else◌, List, Option, Some, None, option_map, unwrap_or}
 use Rattle.std.specs.Prelude.{Result, Ok, Err}
 use Rattle.clap.specs.Words.{Row}
 use Rattle.pmp_core.specs.Hart.{hart_fault, most_bits}
 use Rattle.pmp_core.specs.declared.hart.HartFault.{HartFault}
 use Rattle.pmp_core.specs.declared.hart.HartFault.TheVariants as hart_fault
 use Rattle.pmp_core.specs.declared.hart.Profile.{Profile}
+use Rattle.pmp_plan.specs.declared.aim.Aim.{Aim}
 use Rattle.pmp_plan.specs.declared.security.Security.{Security}
 use Rattle.pmp_tool.specs.declared.argument.Argument.{Argument}
 use Rattle.pmp_tool.specs.declared.argument.Argument.TheVariants as argument
@@ -70,6 +71,20 @@ abbrev pub says_security : List Row → Bool
 says_security rows =
     is_set argument.Mml rows || (is_set argument.Mmwp rows || is_set argument.Rlb rows)
 
--- they describe what a plan is for
-abbrev pub is_hart_said : List Row → Bool
-is_hart_said rows = says_hart rows || says_security rows
+-- where the writes begin, and what is asked of each: at a script's registers always something
+abbrev pub says_watch : List Row → Bool
+says_watch rows =
+    is_used argument.From rows || (is_set argument.Keep rows || is_set argument.WhileM rows)
+
+-- what the writes of a plan are to leave
+abbrev pub aim_in : List Row → Aim
+aim_in rows = record {
+  security = security_in rows;
+  watch = if says_watch rows then Some (record {
+    is_machine_alone = is_set argument.WhileM rows;
+    keeps_open = is_set argument.Keep rows;
+  }) else None;
+}
+
+abbrev pub says_aim : List Row → Bool
+says_aim rows = says_security rows || says_watch rows

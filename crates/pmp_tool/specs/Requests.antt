@@ -1,26 +1,28 @@
 -- What a request outputs, and why one fails.
 use Rattle.std.specs.Prelude.{◌≡◌, ℕ, List, length, Bool, ◌&&◌, nat_le, Option, Some, None, Result, Ok, Err, true}
-use Rattle.std.specs.Prelude.{false, ◌<◌, ⊤}
+use Rattle.std.specs.Prelude.{false, ◌<◌, ⊤, option_map}
 use Rattle.std.specs.Prelude.{codes, bytes_eq, if◌then◌else◌}
 use Rattle.std.specs.Io.KnownBytes.{Appends, Keeps}
 use Rattle.std.specs.Option.{option_to_list}
+use Rattle.clap.specs.Words.{Text}
 use Rattle.pmp_import.specs.declared.fault.ImportFault.{ImportFault}
 use Rattle.pmp_import.specs.declared.given.Given.{Given}
 use Rattle.pmp_import.specs.declared.survey.Survey.{Survey}
 use Rattle.pmp_import.specs.Imported.{imported}
 use Rattle.pmp_import.specs.Imports.{Stops}
 use Rattle.pmp_import.specs.Surveys.{given_alone, given_for, surveyed}
+use Rattle.pmp_core.specs.RegisterFile.{RegisterFile, reset_file}
 use Rattle.pmp_text.specs.Lines.{lines}
 use Rattle.pmp_text.specs.ScriptLines.{is_headed}
 use Rattle.pmp_text.specs.declared.moments.When.{When}
 use Rattle.pmp_text.specs.declared.moments.When.TheVariants.{Labelled, Number}
 use Rattle.pmp_text.specs.declared.refusal.Refusal.{Refusal}
-use Rattle.pmp_text.specs.declared.refusal.Refusal.TheVariants.{BadFolder}
+use Rattle.pmp_text.specs.declared.refusal.Refusal.TheVariants.{BadFolder, NoRows}
 use Rattle.pmp_text.specs.declared.script.reader.TheConstants.{MAX_HEADED_SCRIPT}
 use Rattle.pmp_text.specs.declared.trace.reader.TheConstants.{MAX_TRACE}
 use Rattle.pmp_plan.specs.declared.answer.AnswerFault.{AnswerFault}
 use Rattle.pmp_plan.specs.PlanAnswers.{PlanFails, Tells}
-use Rattle.pmp_plan.specs.PlansOf.{IsPlanOfScript, PlanOfFails}
+use Rattle.pmp_plan.specs.PlansOf.{IsPlanOfScript, Leaves, LeavesNone, PlanOfFails}
 use Rattle.pmp_audit.specs.declared.fault.AuditFault.{AuditFault}
 use Rattle.pmp_audit.specs.declared.policy_check.PolicySummary.{PolicySummary}
 use Rattle.pmp_audit.specs.AccessCheck.{CheckSays}
@@ -42,6 +44,7 @@ use Rattle.pmp_tool.specs.declared.argument.Argument.TheVariants as argument
 use Rattle.pmp_tool.specs.declared.failure.Failure.{Failure}
 use Rattle.pmp_tool.specs.declared.failure.Failure.TheVariants.{Refused}
 use Rattle.pmp_tool.specs.declared.fault_line.FaultLine.{FaultLine}
+use Rattle.pmp_tool.specs.declared.request.Plan.{Plan as AskedPlan}
 use Rattle.pmp_tool.specs.declared.request.Policy.{Policy as AskedPolicy}
 use Rattle.pmp_tool.specs.declared.request.Request.{Request}
 use Rattle.pmp_tool.specs.declared.request.Request.TheVariants.{Check, Why, Audit, LongAudit, Policy, Show, Writes, Lint, Diff}
@@ -109,6 +112,19 @@ pub data ImportFails (known : Option (List ℕ)) (import : Import) (before after
         → AreBytesOf known log → Stops (imported given (lines log)) log fault
         → (part : List ℕ) → Appends before after part → ImportFails known import before after (unimported fault)
 
+-- ---- plans
+
+-- the path of the script that leaves the registers which a plan's writes begin with
+abbrev pub from_path : AskedPlan → Option Text
+from_path plan = option_map (λ path. path.now) plan.from
+
+-- these registers
+abbrev pub IsStart : Paths → AskedPlan → RegisterFile → Type 0
+IsStart paths plan start = elim (from_path plan) [
+  | None ↦ start ≡ reset_file plan.hart
+  | Some path ↦ (script : List ℕ) × AreBytesOf (paths.scripts path) script × Leaves script start
+]
+
 -- ---- answers
 
 -- a policy that must have a row has one
@@ -138,7 +154,8 @@ RequestSays paths script (Diff diff) (Compared rows) text =
     × DiffSays script diff.old_after new diff.new_after diff.changes rows text
 RequestSays paths script (OfLog import) (Imported note) text =
     ImportSays (paths.traces import.log.now) import note text
-RequestSays paths text (Plan plan) Listed written = Tells plan.hart plan.security plan.form text written
+RequestSays paths text (Plan plan) Listed written =
+    (start : RegisterFile) × IsStart paths plan start × Tells start plan.aim plan.form text written
 RequestSays paths script PlanOf Listed text = IsPlanOfScript script text
 RequestSays _ _ _ _ _ = ⊥
 
@@ -150,6 +167,13 @@ AuditByRefuses (Some count) script trace fault = SharedAuditRefuses script trace
 -- a script can't be read, of two the one on this side
 abbrev pub IsUnread : (known : Option (List ℕ)) (side : Option Side) → Failure → Type 0
 IsUnread known side failure = (fault : Refusal) × CantBeRead MAX_HEADED_SCRIPT known fault × (failure ≡ unread fault side)
+
+-- the script that leaves the registers which a plan's writes begin with can't be read, or is none
+pub data NoStart (paths : Paths) (plan : AskedPlan) : Failure → Type 0 where
+  unread_start : (path : Text) (failure : Failure) → from_path plan ≡ Some path
+      → IsUnread (paths.scripts path) None failure → NoStart paths plan failure
+  no_start : (path : Text) (script : List ℕ) → from_path plan ≡ Some path → AreBytesOf (paths.scripts path) script
+      → (fault : AnswerFault) → LeavesNone script fault → NoStart paths plan (unplanned fault)
 
 -- the failure is the fault of a plan, or of a script whose plan is asked for
 pub record IsUnplanned (Fails : AnswerFault → Type 0) (failure : Failure) : Type 0 where
@@ -195,7 +219,15 @@ module _ (before after : Option (List ℕ)) where
         → PolicyFails asked script policy failure
     is_empty : (summary : PolicySummary) (text : List ℕ) → asked.is_strict ≡ true
         → PolicySays asked.pace script policy summary text → summary.rows ≡ 0 → Keeps before after
-        → PolicyFails asked script policy (Refused (bad_word argument.Strict))
+        → PolicyFails asked script policy (refused NoRows)
+
+  -- these registers can't be had, or what follows fails
+  pub data StartFails (paths : Paths) (plan : AskedPlan) (Fails : RegisterFile → Failure → Type 0) : Failure → Type 0
+    where
+      unstarted : (failure : Failure) → NoStart paths plan failure → Keeps before after
+          → StartFails paths plan Fails failure
+      started : (start : RegisterFile) (failure : Failure) → IsStart paths plan start → Fails start failure
+          → StartFails paths plan Fails failure
 
   -- a long audit stops, perhaps after whole rows
   pub record StopsInTrace (script : List ℕ) (first : ℕ) (trace : List ℕ) (failure : Failure) : Type 0 where
@@ -231,5 +263,6 @@ module _ (before after : Option (List ℕ)) where
     -- one script has no other hart
     RequestFails (Harts has_locks) = λ failure. (failure ≡ refused BadFolder) × Keeps before after
     RequestFails (OfLog import) = ImportFails (paths.traces import.log.now) import before after
-    RequestFails (Plan plan) = IsUnplanned (PlanFails plan.hart plan.security plan.form script before after)
+    RequestFails (Plan plan) = StartFails paths plan
+        (λ start. IsUnplanned (PlanFails start plan.aim plan.form script before after))
     RequestFails PlanOf = IsUnplanned (PlanOfFails script before after)

@@ -82,7 +82,7 @@ fn answer_request<R: Threads + Wait + Sync, I: Inputs, O: Write>(
         Request::Diff(asked) => answer_diff(alloc, script, asked, inputs, out),
         Request::Harts(_) => Err(Failure::from(Refusal::BadFolder)),
         Request::Import(asked) => answer_import(alloc, asked, naming, inputs, out),
-        Request::Plan(asked) => answer_plan(alloc, script, asked, out),
+        Request::Plan(asked) => answer_plan(alloc, script, asked, inputs, out),
         Request::PlanOf => answer_plan_of(alloc, script, out),
     }
 }
@@ -239,7 +239,7 @@ fn answer_policy<I: Inputs, O: Write>(
     let policy = read_trace(alloc, naming, inputs, asked.path)?;
     let summary = check_policy(alloc, asked.pace, script, &policy, out)?;
     if asked.is_strict && summary.rows == 0 {
-        return Err(Failure::from(FaultLine::of_word(Argument::Strict)));
+        return Err(Failure::from(Refusal::NoRows));
     }
     Ok(Outcome::Judged(summary))
 }
@@ -346,7 +346,11 @@ pub fn old_side(request: Request<'_>) -> Option<Side>
 }
 
 /// Returns the bytes of the script at the path, which is on this side if there are two.
-fn script_at<I: Inputs>(inputs: &mut I, path: &str, side: Option<Side>) -> Result<Vec<u8>, Failure>
+pub fn script_at<I: Inputs>(
+    inputs: &mut I,
+    path: &str,
+    side: Option<Side>,
+) -> Result<Vec<u8>, Failure>
     ensures read { IfOk result (λ bytes. AreBytesOf ((I.paths inputs.old).scripts path.now) bytes.items) }
     ensures unread { IfErr result (IsUnread ((I.paths inputs.old).scripts path.now) side) }
     ensures paths { I.paths inputs.new ≡ I.paths inputs.old }

@@ -62,6 +62,9 @@ pub enum Argument {
     Rlb,
     AsArray,
     Of,
+    From,
+    Keep,
+    WhileM,
 }
 
 impl Argument {
@@ -110,6 +113,9 @@ impl Argument {
             Rlb => "rlb",
             AsArray => "c",
             Of => "of",
+            From => "from",
+            Keep => "keep",
+            WhileM => "while-m",
         }
     }
 
@@ -117,7 +123,7 @@ impl Argument {
     pub fn name<'a>(self) -> &'a str {
         use Argument::*;
         match self {
-            Script => "SCRIPT",
+            Script | From => "SCRIPT",
             Old => "OLD",
             New => "NEW",
             Trace => "TRACE",
@@ -127,7 +133,7 @@ impl Argument {
             Start => "START",
             Length => "LENGTH",
             Explain | Long | EachWrite | Strict | AsScript | Locks | Bursts => "",
-            Mml | Mmwp | Rlb | AsArray | Of => "",
+            Mml | Mmwp | Rlb | AsArray | Of | Keep | WhileM => "",
             After | OldAfter | FirstRow | Jobs | Hart | Xlen | Entries | AddressBits => "N",
             Grain => "BYTES",
             Smepmp => "ANSWER",
@@ -190,6 +196,9 @@ impl Argument {
             Rlb => help::RLB,
             AsArray => help::AS_ARRAY,
             Of => help::OF,
+            From => help::FROM,
+            Keep => help::KEEP,
+            WhileM => help::WHILE_M,
         }
     }
 
@@ -212,7 +221,9 @@ impl Argument {
             | Mmwp
             | Rlb
             | AsArray
-            | Of => { flag(alloc, id, help) }
+            | Of
+            | Keep
+            | WhileM => { flag(alloc, id, help) }
             AsScript => flag(alloc, id, help).long("script"),
             After
             | OldAfter
@@ -228,7 +239,8 @@ impl Argument {
             | AddressBits
             | Smepmp
             | Names
-            | Folder => option(alloc, id, name, help),
+            | Folder
+            | From => option(alloc, id, name, help),
             Checkers => count(alloc, id, name, CHECKERS, help),
             Jobs => count(alloc, id, name, JOBS, help),
             Script
@@ -260,7 +272,6 @@ impl Argument {
             Argument::Start => "a number, or with --names NAME or NAME+OFFSET",
             Argument::Accept =>
                 "the name of a finding, as mmwp-off, perhaps with a line, as mmwp-off:7",
-            Argument::Strict => "a policy that has a row",
             Argument::FirstRow => "a number from 1 on",
             Argument::Checkers => "a number from 1 to 8",
             Argument::Jobs => "a number from 1 to 64",

@@ -3,7 +3,8 @@
 ghost use Rattle.std.specs.Prelude.{◌≡◌, map, option_map};
 ghost use Rattle.clap.specs.Words.{found_of, rows_of, subcommand_rows_of};
 ghost use Rattle.pmp_tool.specs.Commands.{access_in, access_task, asked, asked_of, audit_in, check_in, command_named};
-ghost use Rattle.pmp_tool.specs.Commands.{diff_in, folder_in, format_in, import_in, long_audit_in, options_in, options_with};
+ghost use Rattle.pmp_tool.specs.Commands.{diff_in, folder_in, format_in, from_in, import_in, long_audit_in, options_in};
+ghost use Rattle.pmp_tool.specs.Commands.{options_with};
 ghost use Rattle.pmp_names.specs.NameLists.{named};
 ghost use Rattle.pmp_tool.specs.Commands.{names_path_in, path_in, plan_in, plan_of_in, policy_in, reads_stdin, second_in};
 ghost use Rattle.pmp_tool.specs.Commands.{show_in, start_in, task_in};
@@ -14,7 +15,7 @@ use crate::argument::Argument;
 use crate::command_name::CommandName;
 use crate::expected::Expected;
 use crate::fault_line::{FaultLine, Place};
-use crate::hart_words::{is_hart_said, read_hart, read_security};
+use crate::hart_words::{read_aim, read_hart, says_aim, says_hart};
 use crate::jobs::JOBS;
 use crate::request::{Audit, Check, Diff, Import, LongAudit, Plan, Policy, Request, Why};
 use crate::word::{
@@ -258,31 +259,46 @@ fn read_diff<'a>(words: &ArgMatches<'a>) -> Result<Request<'a>, FaultLine>
     }))
 }
 
-fn read_plan<'a>(words: &ArgMatches) -> Result<Request<'a>, FaultLine>
+fn read_plan<'a>(words: &ArgMatches<'a>) -> Result<Request<'a>, FaultLine>
     ensures { result_map task_of result ≡ plan_in (rows_of (found_of words.now)) }
 {
     if is_set(words, Argument::Of) {
         return read_plan_of(words);
     }
+    let from = read_from(words)?;
     let hart = read_hart(words)?;
-    let security = read_security(words);
+    let aim = read_aim(words);
     let form = if is_set(words, Argument::AsArray) {
         Form::Array
     } else {
         Form::Script
     };
     Ok(Request::Plan(Plan {
+        from,
         hart,
-        security,
+        aim,
         form,
     }))
+}
+
+/// Returns the script that leaves the registers to begin with, which has a hart of its own.
+fn read_from<'a>(words: &ArgMatches<'a>) -> Result<Option<&'a str>, FaultLine>
+    ensures { result_map (option_map (λ path. path.now)) result ≡ from_in (rows_of (found_of words.now)) }
+{
+    if !is_used(words, Argument::From) {
+        return Ok(None);
+    }
+    if says_hart(words) {
+        return Err(FaultLine::from(Refusal::BadWord));
+    }
+    Ok(Some(second(words, Argument::From)?))
 }
 
 /// Returns the plan of a script, whose hart and `mseccfg` are the script's own.
 fn read_plan_of<'a>(words: &ArgMatches) -> Result<Request<'a>, FaultLine>
     ensures { result_map task_of result ≡ plan_of_in (rows_of (found_of words.now)) }
 {
-    if is_hart_said(words) || is_set(words, Argument::AsArray) {
+    if says_hart(words) || says_aim(words) || is_set(words, Argument::AsArray) {
         return Err(FaultLine::from(Refusal::BadWord));
     }
     Ok(Request::PlanOf)

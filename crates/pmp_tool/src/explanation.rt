@@ -144,7 +144,6 @@ fn write_remedy(
     has_bare_address: bool,
 ) -> Result<(), AllocError> {
     let remedy = match line.place {
-        Place::Word(Argument::Strict) => WITH_ROWS,
         place if has_bare_address && is_address(place) => WITH_PREFIX,
         _ => line.refusal.remedy(),
     };
@@ -154,9 +153,6 @@ fn write_remedy(
 /// What to do about an address in the program's output form.
 const WITH_PREFIX: &str =
     "put 0x before the address: pmp writes its 14 digits without it, and reads them with it";
-
-/// What to do about a policy without rows.
-const WITH_ROWS: &str = "add rows to the policy, or leave --strict out";
 
 fn is_new(place: Place) -> bool {
     matches!(place, Place::Script(Side::New))
@@ -210,13 +206,14 @@ fn wanted_field(line: &FaultLine) -> Option<&'static str> {
 fn input_of<'a>(line: &FaultLine, kept: &'a Kept) -> Option<&'a KeptInput> {
     let (first, last) = (kept.inputs().first(), kept.inputs().last());
     match (line.place, line.refusal) {
-        (Place::ScriptLine(_) | Place::Script(Side::Old) | Place::LineOf(Side::Old, _), _) => first,
+        (Place::ScriptLine(_), _) => kept.script(),
+        (Place::Script(Side::Old) | Place::LineOf(Side::Old, _), _) => first,
         (Place::PlanRow(_) | Place::PlanRows(..) | Place::PlanEntries { .. }, _) => first,
         (Place::Nowhere, Refusal::BadAfter | Refusal::NoMoment) => first,
         (Place::NamesRow(_) | Place::LogLine(_), _) | (_, Refusal::BadFolder) => last,
         (Place::Nowhere, Refusal::TooLong | Refusal::BadHeader | Refusal::Input) => last,
         (Place::Nowhere, Refusal::NoHart) => last,
-        (Place::Word(Argument::Strict), _) => kept.inputs().get(1),
+        (Place::Nowhere, Refusal::NoRows) => kept.inputs().get(1),
         (Place::Nowhere | Place::Word(_), _) => None,
         _ => kept.inputs().get(1),
     }

@@ -107,7 +107,7 @@ impl Place {
                 row: number(row),
                 field: None,
             }),
-            PlanFault::FewEntries { found, row, takes } => Place::PlanEntries {
+            PlanFault::FewEntries { found, row, takes } if takes > 0 => Place::PlanEntries {
                 row: number(row),
                 takes: takes as u64,
                 found: found as u64,

@@ -3,15 +3,15 @@
 ghost use Rattle.std.specs.Prelude.{◌≡◌, IfOk, None};
 ghost use Rattle.pmp_core.specs.Hart.{hart_fault, most_bits};
 ghost use Rattle.clap.specs.Words.{found_of, rows_of};
-ghost use Rattle.pmp_tool.specs.HartWords.{argument_of, hart_in, hart_with, is_hart_said, made, profile_said, says_hart};
-ghost use Rattle.pmp_tool.specs.HartWords.{says_security, security_in};
+ghost use Rattle.pmp_tool.specs.HartWords.{aim_in, argument_of, hart_in, hart_with, made, profile_said, says_aim};
+ghost use Rattle.pmp_tool.specs.HartWords.{says_hart, says_security, says_watch, security_in};
 
 use crate::argument::Argument;
 use crate::fault_line::FaultLine;
 use crate::word::{Grain, Smepmp, Xlen, asked, is_set, is_used};
 use clap::ArgMatches;
 use pmp_core::{Hart, HartFault, MAX_ADDRESS_BITS, MID_ADDRESS_BITS, Profile};
-use pmp_plan::Security;
+use pmp_plan::{Aim, Security, Watch};
 
 /// Returns the option whose number no hart has.
 fn argument_of(fault: HartFault) -> Argument
@@ -106,7 +106,7 @@ pub fn read_hart(words: &ArgMatches) -> Result<Profile, FaultLine>
 }
 
 /// Returns the bits of `mseccfg` that the words ask for.
-pub fn read_security(words: &ArgMatches) -> Security
+fn read_security(words: &ArgMatches) -> Security
     ensures { result ≡ security_in (rows_of (found_of words.now)) }
 {
     Security {
@@ -117,7 +117,7 @@ pub fn read_security(words: &ArgMatches) -> Security
 }
 
 /// Whether the words say anything about a hart.
-fn says_hart(words: &ArgMatches) -> bool
+pub fn says_hart(words: &ArgMatches) -> bool
     ensures { result ≡ says_hart (rows_of (found_of words.now)) }
 {
     is_used(words, Argument::Xlen)
@@ -134,9 +134,32 @@ fn says_security(words: &ArgMatches) -> bool
     is_set(words, Argument::Mml) || is_set(words, Argument::Mmwp) || is_set(words, Argument::Rlb)
 }
 
-/// Whether the words say anything about what a plan is for.
-pub fn is_hart_said(words: &ArgMatches) -> bool
-    ensures { result ≡ is_hart_said (rows_of (found_of words.now)) }
+/// Whether the words ask for anything from one write to the next.
+fn says_watch(words: &ArgMatches) -> bool
+    ensures { result ≡ says_watch (rows_of (found_of words.now)) }
 {
-    says_hart(words) || says_security(words)
+    is_used(words, Argument::From)
+        || is_set(words, Argument::Keep)
+        || is_set(words, Argument::WhileM)
+}
+
+/// Returns what the words ask of the writes of a plan.
+pub fn read_aim(words: &ArgMatches) -> Aim
+    ensures { result ≡ aim_in (rows_of (found_of words.now)) }
+{
+    let watch = Watch {
+        is_machine_alone: is_set(words, Argument::WhileM),
+        keeps_open: is_set(words, Argument::Keep),
+    };
+    Aim {
+        security: read_security(words),
+        watch: if says_watch(words) { Some(watch) } else { None },
+    }
+}
+
+/// Whether the words ask anything of the writes of a plan.
+pub fn says_aim(words: &ArgMatches) -> bool
+    ensures { result ≡ says_aim (rows_of (found_of words.now)) }
+{
+    says_security(words) || says_watch(words)
 }

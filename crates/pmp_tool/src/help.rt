@@ -158,6 +158,16 @@ pub const MMWP: &str = "Also sets MMWP: even M-mode reaches no byte that the pla
 
 pub const RLB: &str = "Leaves RLB set: locked entries can still be written";
 
+pub const FROM: &str =
+    "Begins with the registers that this script, or stdin, leaves, on its hart; no write on the way opens a byte that is \
+    closed before all writes and after them";
+
+pub const KEEP: &str =
+    "Nor does a write on the way close a byte that is open before all writes and after them";
+
+pub const WHILE_M: &str =
+    "Asks so only of M-mode's accesses, where nothing else runs until the last write, as in a boot";
+
 pub const AS_ARRAY: &str = "Writes a C array of CSR numbers and values instead of a script";
 
 pub const OF: &str =

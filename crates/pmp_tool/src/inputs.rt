@@ -92,7 +92,7 @@ impl<'a, R: Files + Input + AllocGlobal + Clock + Clone + Drop, E: Write + Drop>
     type Trace = Watched<'a, TraceInput<R>, R, E>;
 
     fn script(&mut self, path: &str) -> Result<Vec<u8>, InputFault> {
-        self.kept.begin(path);
+        self.kept.begin_script(path);
         let script = read_script_at(self.runtime, path)?;
         self.kept.fill(&script);
         Ok(script)

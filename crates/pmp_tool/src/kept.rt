@@ -16,6 +16,8 @@ pub struct Kept {
     alloc: Global,
     keeps: bool,
     inputs: Vec<KeptInput>,
+    /// The index of the last input that is a script, of two that of the second.
+    script: usize,
 }
 
 impl Kept {
@@ -25,6 +27,7 @@ impl Kept {
             alloc,
             keeps,
             inputs: Vec::new(alloc),
+            script: 0,
         }
     }
 
@@ -33,6 +36,12 @@ impl Kept {
         if self.keeps && self.add(path).is_err() {
             self.keeps = false;
         }
+    }
+
+    /// Notes a script.
+    pub fn begin_script(&mut self, path: &str) {
+        self.script = self.inputs.len();
+        self.begin(path);
     }
 
     fn add(&mut self, path: &str) -> Result<(), AllocError> {
@@ -54,6 +63,11 @@ impl Kept {
     /// Forgets them, and keeps later ones as before.
     pub fn forget(&mut self) {
         self.inputs.clear();
+    }
+
+    /// Returns the last script.
+    pub fn script(&self) -> Option<&KeptInput> {
+        self.inputs.get(self.script)
     }
 
     pub fn inputs(&self) -> &[KeptInput] {

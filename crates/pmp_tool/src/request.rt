@@ -9,7 +9,7 @@ use pmp_audit::{AskedChanges, Pace, View};
 use pmp_core::{Access, Profile};
 use pmp_import::{Format, Options};
 use pmp_lint::Accepted;
-use pmp_plan::{Form, Security};
+use pmp_plan::{Aim, Form};
 use pmp_share::CHECKERS;
 use pmp_text::When;
 
@@ -92,11 +92,12 @@ pub struct Diff<'a> {
 
 /// The writes for a plan.
 #[derive(Clone, Copy)]
-pub struct Plan {
-    /// The hart that they are for, after reset.
+pub struct Plan<'a> {
+    /// The path of the script that leaves the registers they begin with, unless they follow a reset.
+    pub from: Option<&'a str>,
+    /// The hart that they are for after a reset.
     pub hart: Profile,
-    /// The bits of `mseccfg` that they leave.
-    pub security: Security,
+    pub aim: Aim,
     pub form: Form,
     ghost made: { hart_fault hart ≡ None },
 }
@@ -119,7 +120,7 @@ pub enum Request<'a> {
     Harts(bool),
     Import(Import<'a>),
     /// The writes for the plan that is given instead of the script.
-    Plan(Plan),
+    Plan(Plan<'a>),
     /// The plan that a script's registers implement.
     PlanOf,
 }

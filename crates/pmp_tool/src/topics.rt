@@ -431,7 +431,7 @@ a name and a comment for people: any text without control bytes (below 0x20, or
 from the first publication on\"`.
 
 A policy without rows holds, and a note says that it has none. With `--strict`
-it is refused (24).
+it is refused (71).
 
 `pmp policy` writes a row for each row of the policy, in order: `N,holds,,,,`,
 or `N,broken,DONE,FIRST,LAST,OWNER` with only its first breach, by time, then
@@ -842,7 +842,10 @@ that make it so on a hart after reset: a script of version 3, or with `--c` a C
 array to paste into firmware. Options give the hart, by default RV64 with 16
 entries and Smepmp, and its MML, MMWP and RLB, by default 0. Before anything is
 written, the writes are run, and the result is compared with the plan, byte by
-byte. `pmp plan --of SCRIPT` turns a script's final registers into a plan.
+byte. With `--from SCRIPT` the writes begin with the registers that a script
+leaves, as a switch from one domain to another does, in an order in which none
+of them opens a byte that is closed before and after. `pmp plan --of SCRIPT`
+turns a script's final registers into a plan.
   first, last  the byte addresses of the first byte and of the last one, not
                below it; rows may come in any order
   m            the rights of M-mode, as r-x; bytes of no row have rwx, with

@@ -3,3 +3,4 @@ pub mod Rooms
 pub mod Request
 pub mod Demand
 pub mod Answers
+pub mod Plans

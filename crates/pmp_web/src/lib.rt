@@ -16,14 +16,17 @@ ghost use Rattle.pmp_audit.specs.ScriptDiff.{DiffRefuses};
 ghost use Rattle.pmp_web.specs.Answers.{Answers, AnswersAccess, AnswersImport, AnswersVerdict, AnswersView};
 ghost use Rattle.pmp_web.specs.Answers.{CountSays, DiffAnswerSays, RowsSay};
 ghost use Rattle.pmp_web.specs.Demand.{question_of};
+ghost use Rattle.pmp_web.specs.Plans.{AnswersMeets, AnswersPlan, security_of};
 ghost use Rattle.pmp_web.specs.Request.{format_of, view_of};
 ghost use Rattle.pmp_web.specs.Rooms.{script_in, text_in};
 
 mod answering;
+mod plans;
 mod request;
 mod rooms;
 
 use answering::{ANSWERED, GUESSED, Log, append_count, refuse, refuse_log, refuse_question, tell};
+use plans::{file_after, security_of, tell_script, tell_verdicts};
 use pmp_audit::{
     AskedChanges, append_diff, append_reasons, append_verdict, append_view, append_writes,
 };
@@ -181,5 +184,45 @@ pub extern "C" fn tilvenka_page_import(log: &Script, format: u32, answer: &mut A
             ANSWERED
         }
         Err(fault) => refuse_log(answer, fault),
+    }
+}
+
+/// Writes for each row of a plan whether the registers after the given number of publications meet it: a line
+/// `ROW,met,,,,,`, or `ROW,unmet,BYTE,OWNER,MRIGHTS,SURIGHTS,HELD` with the first byte that has other rights, or isn't
+/// held, and what it has. The last line, numbered 0, is for the bytes of no row, which are to be left as without
+/// entries. 256 is added to the number of a refusal of the plan, whose line is the number of the row.
+#[unsafe(no_mangle)]
+pub extern "C" fn tilvenka_page_meets(
+    script: &Script,
+    after: u64,
+    plan: &Script,
+    answer: &mut Answer,
+) -> u32
+    ensures { AnswersMeets (script_in script.now) (script_in plan.now) after result answer.new }
+{
+    match file_after(script.text(), after) {
+        Ok(file) => tell_verdicts(&file, plan.text(), answer),
+        Err(fault) => refuse(answer, &fault),
+    }
+}
+
+/// Writes the script of a plan, like `pmp plan`, for the hart of a script, and for a value of `mseccfg`. A value with
+/// bits other than MML, MMWP and RLB is refused as 24 before the script is read. 256 is added to the number of a
+/// refusal of the plan, whose line is the number of the row.
+#[unsafe(no_mangle)]
+pub extern "C" fn tilvenka_page_plan(
+    script: &Script,
+    plan: &Script,
+    mseccfg: u32,
+    answer: &mut Answer,
+) -> u32
+    ensures { AnswersPlan (script_in script.now) (script_in plan.now) (security_of mseccfg) result answer.new }
+{
+    let Some(security) = security_of(mseccfg) else {
+        return refuse_question(answer, Refusal::BadWord);
+    };
+    match file_after(script.text(), 0) {
+        Ok(file) => tell_script(&file, security, plan.text(), answer),
+        Err(fault) => refuse(answer, &fault),
     }
 }

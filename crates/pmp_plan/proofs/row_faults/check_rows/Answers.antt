@@ -6,7 +6,7 @@ use Rattle.std.specs.Prelude.{slice_get}
 use Rattle.pmp_core.specs.declared.hart.Profile.{Profile}
 use Rattle.pmp_plan.specs.declared.fault.PlanFault.{PlanFault}
 use Rattle.pmp_plan.specs.declared.fault.PlanFault.TheVariants.{Overlap, TooFine, PastEnd, BadPair, NotHeld}
-use Rattle.pmp_plan.specs.declared.fault.PlanFault.TheVariants.{FewEntries, Stopped, Memory}
+use Rattle.pmp_plan.specs.declared.fault.PlanFault.TheVariants.{FewEntries, Stopped, NoOrder, Memory}
 use Rattle.pmp_plan.specs.declared.plan_row.PlanRow.{PlanRow}
 use Rattle.pmp_plan.specs.declared.security.Security.{Security}
 use Rattle.pmp_plan.specs.PlanFaults.{IsFit, IsFlawOf, Refuses}
@@ -22,6 +22,7 @@ refused hart security rows index row (BadPair one) at flaw = absurd flaw
 refused hart security rows index row NotHeld at flaw = absurd flaw
 refused hart security rows index row (FewEntries found number takes) at flaw = absurd flaw
 refused hart security rows index row Stopped at flaw = absurd flaw
+refused hart security rows index row NoOrder at flaw = absurd flaw
 refused hart security rows index row Memory at flaw = absurd flaw
 
 pub returns-in-Some-flaw_of-clause-err : goal.returns-in-Some-flaw_of-clause-err

@@ -29,6 +29,6 @@ returns-then-summary-eq0-clause-err g c =
     let policy = c.in_ok-policy in
     let judged = rw c.deref.ensures.value at c.in_ok-summary.ensures.ok in
     let none : c.in_ok-summary.summary.rows ≡ 0 = search rules in
-    rw (c.from.ensures, c.of_word.ensures) (taken policy.policy.items _ policy.ensures.read
+    rw c.from.ensures (taken policy.policy.items _ policy.ensures.read
     (is_empty c.in_ok-summary.summary judged.text (search rules) judged.says none
     (nothing_judged c.in_ok-summary.summary judged.text judged.says none _ _ judged.written)))

@@ -79,11 +79,11 @@ returns-in-Import-clause-err g c = rw c.in-Import.is (c.answer_import.ensures.er
 
 pub returns-in-Plan-clause-ok : goal.returns-in-Plan-clause-ok
 returns-in-Plan-clause-ok g c = rw c.in-Plan.is
-    (c.answer_plan.ensures.ok (paths_for c.args.naming (g.I.Inputs.paths c.args.inputs.now)))
+    (c.answer_plan.ensures.ok (traces_for c.args.naming (g.I.Inputs.paths c.args.inputs.now).traces))
 
 pub returns-in-Plan-clause-err : goal.returns-in-Plan-clause-err
 returns-in-Plan-clause-err g c = rw c.in-Plan.is
-    (c.answer_plan.ensures.err (paths_for c.args.naming (g.I.Inputs.paths c.args.inputs.now)))
+    (c.answer_plan.ensures.err (traces_for c.args.naming (g.I.Inputs.paths c.args.inputs.now).traces))
 
 pub returns-in-PlanOf-clause-ok : goal.returns-in-PlanOf-clause-ok
 returns-in-PlanOf-clause-ok g c = rw c.in-PlanOf.is

@@ -1,7 +1,7 @@
 use Rattle.std.proofs.Common.{ℕ, ◌-◌, ◌<◌, ◌≤◌}
 use Rattle.pmp_core.specs.declared.access.TheConstants.{ADDRESS_LIMIT}
 use Rattle.pmp_plan.specs.Plans.{Gives}
-use Rattle.pmp_plan.proofs.judge.gives.Given as goal
+use Rattle.pmp_plan.proofs.unmet.first_unmet.Given as goal
 
 -- the bytes before this one are given what is asked
 abbrev pub invariant-loop-at : goal.invariant-loop-at

@@ -1,6 +1,6 @@
 use Rattle.std.proofs.Common.{arith}
 use Rattle.pmp_plan.proofs.NoRows.{no_rows}
-use Rattle.pmp_plan.proofs.planning.plan.Goals as goal
+use Rattle.pmp_plan.proofs.planning.plan_at_reset.Goals as goal
 
 pub returns-then-entries-eq0-clause-err : goal.returns-then-entries-eq0-clause-err
 returns-then-entries-eq0-clause-err c = (

@@ -1,7 +1,7 @@
 use Rattle.std.proofs.Common.{◌≤◌, ◌-◌}
 use Rattle.pmp_core.specs.declared.access.TheConstants.{ADDRESS_LIMIT}
 use Rattle.pmp_plan.specs.Walks.{GivesRest}
-use Rattle.pmp_plan.proofs.judge.gives_rest.Given as goal
+use Rattle.pmp_plan.proofs.unmet.first_unmet_rest.Given as goal
 
 -- the bytes before this one that no row has are given the rights
 abbrev pub invariant-loop-at : goal.invariant-loop-at

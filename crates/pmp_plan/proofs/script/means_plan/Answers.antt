@@ -1,0 +1,10 @@
+use Rattle.std.proofs.Common.{rules, ◌≡◌}
+use Rattle.pmp_plan.proofs.script.means_plan.Goals as goal
+
+pub returns : goal.returns
+returns c is = record {
+  contents = c.in-Ok.script;
+  means = c.in-Ok.ensures;
+  start_is = search rules;
+  leads = rw c.events.ensures at (c.leads.ensures.yes is);
+}

@@ -1,0 +1,154 @@
+//! Writes that lead from registers to a plan.
+
+ghost use Rattle.std.specs.Prelude.{IfErr, IfOk, IfSome};
+ghost use Rattle.pmp_plan.specs.PlanFaults.{IsSound, RefusesFrom};
+ghost use Rattle.pmp_plan.specs.Routes.{Leads, lasting};
+
+use crate::aim::{Aim, Watch};
+use crate::fault::PlanFault;
+use crate::judge::meets;
+use crate::layout::{Layout, behind_frozen, with_entries};
+use crate::order::Route;
+use crate::parts::Parts;
+use crate::passing::leads;
+use crate::plan_row::PlanRow;
+use crate::planning::{Planned, plan_at_reset};
+use crate::search::search;
+use crate::state::State;
+use crate::writes::WRITES;
+use arrayvec::ArrayVec;
+use pmp_core::{Event, RegFile};
+
+/// Returns writes to the plan's entries in the first place where an order is found.
+fn order_in(layout: Layout<'_>, aim: Aim, rows: &[PlanRow<'_>]) -> Option<ArrayVec<Event, WRITES>> {
+    let start = layout.start;
+    let security = aim.lasting(start);
+    for first in 0..usize::from(start.entries()) {
+        let Some(mut target) = layout.from_place(first) else {
+            continue;
+        };
+        target.mseccfg = security.value();
+        let end = RegFile::restore(&target);
+        if !meets(&end, start.hart(), security, rows) {
+            continue;
+        }
+        if let Some(writes) = Route::new(aim.watch, start, &end).found() {
+            return Some(writes);
+        }
+    }
+    None
+}
+
+/// Returns the aim with everything kept open that may be.
+fn keeping(aim: Aim) -> Aim {
+    let watch = aim.watch.map(|watch| Watch {
+        keeps_open: true,
+        ..watch
+    });
+    Aim { watch, ..aim }
+}
+
+/// Returns writes to the plan's entries, if they are found: if possible, what is open before and after stays open.
+fn order_of(layout: Layout<'_>, aim: Aim, rows: &[PlanRow<'_>]) -> Option<ArrayVec<Event, WRITES>> {
+    let kept = order_in(layout, keeping(aim), rows);
+    if kept.is_some() {
+        return kept;
+    }
+    order_in(layout, aim, rows)
+}
+
+/// Returns writes to the entries that a plan has after a reset.
+fn as_after_reset(
+    start: &RegFile,
+    aim: Aim,
+    rows: &[PlanRow<'_>],
+    planned: &Planned,
+) -> Option<ArrayVec<Event, WRITES>> {
+    let mut wanted = RegFile::reset_on(start.hart());
+    wanted.run_events(&planned.writes);
+    let wanted = wanted.save();
+    let layout = Layout {
+        start,
+        wanted: &wanted,
+        count: planned.entries,
+    };
+    order_of(layout, aim, rows)
+}
+
+/// Returns writes to entries that are found behind those that no write changes.
+fn as_behind_frozen(
+    room: &mut [State],
+    start: &RegFile,
+    aim: Aim,
+    rows: &[PlanRow<'_>],
+) -> Option<ArrayVec<Event, WRITES>> {
+    let parts = Parts::of(start.hart(), aim.lasting(start), rows)?;
+    let state = search(room, &parts, behind_frozen(&parts, start))?;
+    let wanted = with_entries(start, state.entries());
+    let layout = Layout {
+        start,
+        wanted: &wanted,
+        count: state.count,
+    };
+    order_of(layout, aim, rows)
+}
+
+/// Returns writes from these registers, if they are found: none if the registers meet the plan.
+fn found(
+    room: &mut [State],
+    start: &RegFile,
+    aim: Aim,
+    rows: &[PlanRow<'_>],
+    planned: &Planned,
+) -> Option<ArrayVec<Event, WRITES>> {
+    if leads(start, aim, rows, &[]) {
+        return Some(ArrayVec::new());
+    }
+    let writes = as_after_reset(start, aim, rows, planned);
+    if writes.is_some() {
+        return writes;
+    }
+    as_behind_frozen(room, start, aim, rows)
+}
+
+/// Returns writes from these registers, if they are found, and lead to the plan.
+fn ordered(
+    room: &mut [State],
+    start: &RegFile,
+    aim: Aim,
+    rows: &[PlanRow<'_>],
+    planned: &Planned,
+) -> Option<ArrayVec<Event, WRITES>>
+    ensures { IfSome result (λ writes. Leads start.now aim rows.now writes.items) }
+{
+    let writes = found(room, start, aim, rows, planned)?;
+    if !leads(start, aim, rows, &writes) {
+        return None;
+    }
+    Some(writes)
+}
+
+/// Returns writes from these registers to ones that give each byte of each row exactly the row's rights, hold it if the
+/// row is locked, and leave every other byte as without entries. If that is asked for, each write keeps closed what is
+/// closed before all of them and after.
+///
+/// The writes are run on a unit of the hart, and judged, before they are returned, so the search can only refuse. The
+/// first of these is reported: what a plan for the same hart after a reset is refused for; `NoOrder`, which doesn't come
+/// after a reset if nothing is asked of the writes on the way. The search has the room, of `SEARCH_ROOM` states.
+pub fn plan(
+    room: &mut [State],
+    start: &RegFile,
+    aim: Aim,
+    rows: &[PlanRow<'_>],
+) -> Result<ArrayVec<Event, WRITES>, PlanFault>
+    ensures ok { IfOk result (λ writes. Leads start.now aim rows.now writes.items) }
+    ensures sound { IfOk result (λ _. IsSound start.now.profile (lasting start.now aim.security) rows.now) }
+    ensures err { IfErr result (RefusesFrom start.now aim rows.now) }
+{
+    let planned = plan_at_reset(room, start.hart(), aim.lasting(start), rows)?;
+    let is_reset = *start == RegFile::reset_on(start.hart());
+    if is_reset && leads(start, aim, rows, &planned.writes) {
+        return Ok(planned.writes);
+    }
+    ordered(room, start, aim, rows, &planned).ok_or(PlanFault::NoOrder)
+}

@@ -1,0 +1,110 @@
+//! Whether a register file meets the rows of a plan, row by row, as text.
+
+ghost use Rattle.std.specs.Prelude.{◌≡◌, ◌⊎◌, ◌++◌, Err, IfErr, List, OnErr, OnOk, Some, ℕ};
+ghost use Rattle.pmp_core.specs.RegisterFile.{RegisterFile};
+ghost use Rattle.pmp_text.specs.Outcomes.{no_memory_for_rows};
+ghost use Rattle.pmp_text.specs.RunLines.{owner_text};
+ghost use Rattle.pmp_plan.specs.PlanTexts.{plan_said};
+ghost use Rattle.pmp_plan.specs.Verdicts.{AreJudged, IsRestVerdict, IsVerdict, VerdictsSay, verdict_line};
+
+use crate::letters::{Letters, yes_no};
+use crate::plan_row::PlanRow;
+use crate::reading::read_plan_to;
+use crate::row_list::RowList;
+use crate::security::Security;
+use crate::unmet::{Unmet, first_unmet, first_unmet_rest};
+use pmp_core::{RegFile, Registers};
+use pmp_text::{NoMemory, Sink, TraceFault, append_line};
+use std::fmt;
+
+/// The number of an entry, or a dash for none.
+#[derive(Clone, Copy)]
+struct Owner(Option<u8>);
+
+impl fmt::Display for Owner {
+    ghost output = { λ owner. Some (owner_text owner.0) };
+
+    fn fmt<W: fmt::Write>(&self, f: &mut fmt::Formatter<W>) -> fmt::Result {
+        match self.0 {
+            Some(entry) => write!(f, "{entry}"),
+            None => write!(f, "-"),
+        }
+    }
+}
+
+/// The line of a verdict.
+#[derive(Clone, Copy)]
+struct VerdictLine {
+    number: u64,
+    unmet: Option<Unmet>,
+}
+
+impl fmt::Display for VerdictLine {
+    ghost output = { λ line. Some (verdict_line line.number line.unmet) };
+
+    fn fmt<W: fmt::Write>(&self, f: &mut fmt::Formatter<W>) -> fmt::Result {
+        let number = self.number;
+        let Some(unmet) = self.unmet else {
+            return write!(f, "{number},met,,,,,\n");
+        };
+        let (byte, owner) = (unmet.byte, Owner(unmet.owner));
+        let machine = Letters(unmet.rights.machine);
+        let others = Letters(unmet.rights.others);
+        let held = yes_no(unmet.is_held);
+        write!(
+            f,
+            "{number},unmet,0x{byte:x},{owner},{machine},{others},{held}\n"
+        )
+    }
+}
+
+/// Returns the first byte for which a row isn't met.
+fn verdict(registers: &Registers<'_>, row: &PlanRow<'_>) -> Option<Unmet>
+    ensures { IsVerdict registers.now row.now result }
+{
+    first_unmet(registers, row.first, row.last, row.demand)
+}
+
+/// Appends a line for each row.
+fn append_rows<S: Sink>(
+    out: &mut S,
+    registers: &Registers<'_>,
+    rows: &[PlanRow<'_>],
+) -> Result<(), NoMemory>
+    ensures { OnOk result ((text : List ℕ) × AreJudged registers.now rows.now text
+        × (S.text out.new ≡ S.text out.old ++ text)) }
+{
+    for (index, row) in rows.iter().enumerate() {
+        let number = index as u64 + 1;
+        let unmet = verdict(registers, row);
+        append_line(out, VerdictLine { number, unmet })?;
+    }
+    Ok(())
+}
+
+/// Returns the first byte of no row that isn't left as without entries.
+fn rest_verdict(file: &RegFile, rows: &[PlanRow<'_>]) -> Option<Unmet>
+    ensures { IsRestVerdict file.now rows.now result }
+{
+    first_unmet_rest(&file.registers(), rows, Security::of(file).rest())
+}
+
+/// Appends a line for each row of a plan in a text, and with the number 0 one for the bytes of no row, which are to be
+/// left as without entries: `NUMBER,met,,,,,`, or `NUMBER,unmet,BYTE,OWNER,MRIGHTS,SURIGHTS,HELD` with the first byte
+/// that has other rights, or isn't held, and what it has.
+pub fn append_verdicts<'a, L: RowList<'a>, S: Sink>(
+    rows: &mut L,
+    file: &RegFile,
+    text: &'a [u8],
+    out: &mut S,
+) -> Result<(), TraceFault>
+    ensures ok { OnOk result ((lines : List ℕ) × VerdictsSay file.now text.now lines
+        × (S.text out.new ≡ S.text out.old ++ lines)) }
+    ensures err { IfErr result (λ fault. (fault ≡ no_memory_for_rows) ⊎ (plan_said text.now ≡ Err fault)) }
+{
+    read_plan_to(rows, text)?;
+    append_rows(out, &file.registers(), rows.rows())?;
+    let unmet = rest_verdict(file, rows.rows());
+    append_line(out, VerdictLine { number: 0, unmet })?;
+    Ok(())
+}

@@ -1,0 +1,148 @@
+//! Plans beside a script: what is answered of them, and why nothing is.
+
+ghost use Rattle.std.specs.Prelude.{◌≡◌, ◌≤◌, [], IfErr, IfOk, Some, length};
+ghost use Rattle.pmp_audit.specs.Answers.{Declines};
+ghost use Rattle.pmp_audit.specs.AskedFile.{FileRefuses};
+ghost use Rattle.pmp_audit.specs.ScriptDiff.{GivesFile};
+ghost use Rattle.pmp_text.specs.Reports.{file_of_script};
+ghost use Rattle.pmp_text.specs.declared.moments.When.TheVariants.{Number};
+ghost use Rattle.pmp_web.specs.Plans.{HasNoVerdicts, IsPlanRefusal, PlanScriptSays, TellsOfPlan, plan_number, plan_row};
+ghost use Rattle.pmp_web.specs.Plans.{row_in_plan, security_of};
+ghost use Rattle.pmp_web.specs.Rooms.{text_in};
+ghost use Rattle.pmp_plan.specs.PlanRooms.{HasNoScript};
+ghost use Rattle.pmp_plan.specs.Verdicts.{VerdictsSay};
+
+use crate::answering::{ANSWERED, Log};
+use crate::rooms::Answer;
+use arrayvec::ArrayVec;
+use pmp_audit::AuditFault;
+use pmp_core::RegFile;
+use pmp_plan::{
+    AnswerFault, PlanFault, PlanRow, SEARCH_ROOM, Security, State, append_plan, append_verdicts,
+};
+use pmp_text::{Refusal, Script, read_script};
+
+/// The greatest number of a plan's rows.
+const ROWS: usize = 1 << 10;
+
+/// The number added to that of a refusal of the plan.
+const OF_PLAN: u32 = 256;
+
+/// Returns the register file after the first publications, so many, of a script.
+fn file_of(script: &Script, done: u64) -> RegFile
+    requires { done ≤ length script.now.batches }
+    ensures { result ≡ file_of_script script.now done }
+{
+    let mut file = script.start();
+    let count = script.events_before(done) as usize;
+    file.run_events(&script.events()[..count]);
+    file
+}
+
+/// Returns the register file after so many publications.
+pub fn file_after(script: &[u8], done: u64) -> Result<RegFile, AuditFault>
+    ensures ok { IfOk result (GivesFile script.now (Some (Number done))) }
+    ensures err { IfErr result (Declines (FileRefuses script.now (Some (Number done)))) }
+{
+    let mut log = Log::new();
+    let script = read_script(&mut log, script)?;
+    if done > script.batches() {
+        return Err(AuditFault::BadAfter);
+    }
+    Ok(file_of(&script, done))
+}
+
+/// Returns the bits of `mseccfg` in a value of it, or none if it has others.
+pub fn security_of(value: u32) -> Option<Security>
+    ensures { result ≡ security_of value }
+{
+    if value > 7 {
+        return None;
+    }
+    Some(Security {
+        mml: value % 2 == 1,
+        mmwp: value / 2 % 2 == 1,
+        rlb: value / 4 % 2 == 1,
+    })
+}
+
+/// Returns the number of a refusal of a plan.
+fn plan_number(fault: AnswerFault) -> u32
+    ensures { result ≡ plan_number fault }
+{
+    let refusal = match fault {
+        AnswerFault::Text(fault) => fault.kind,
+        AnswerFault::Script(fault) => fault.kind,
+        AnswerFault::Plan(fault) => fault.refusal(),
+        AnswerFault::Output => Refusal::Output,
+    };
+    OF_PLAN + u32::from(refusal.number())
+}
+
+/// Returns the number of the row that a fault is about, from 1, or 0.
+fn row_in_plan(fault: PlanFault) -> u64
+    ensures { result ≡ row_in_plan fault }
+{
+    match fault {
+        PlanFault::Overlap { row, .. }
+        | PlanFault::TooFine { row, .. }
+        | PlanFault::PastEnd { row }
+        | PlanFault::BadPair { row }
+        | PlanFault::FewEntries { row, .. } => (row as u64).saturating_add(1),
+        _ => 0,
+    }
+}
+
+/// Returns the number of the row that a refusal is about, from 1, or 0.
+fn plan_row(fault: AnswerFault) -> u64
+    ensures { result ≡ plan_row fault }
+{
+    match fault {
+        AnswerFault::Text(fault) => fault.row,
+        AnswerFault::Plan(fault) => row_in_plan(fault),
+        _ => 0,
+    }
+}
+
+/// Returns the status of a refusal of a plan, which leaves no text in the room.
+fn refuse_plan(answer: &mut Answer, fault: AnswerFault) -> u32
+    ensures number { result ≡ plan_number fault }
+    ensures line { answer.new.line ≡ plan_row fault }
+    ensures empty { text_in answer.new ≡ [] }
+{
+    answer.clear();
+    answer.line = plan_row(fault);
+    plan_number(fault)
+}
+
+/// Writes the script of a plan for a file's hart, and returns the status.
+pub fn tell_script(file: &RegFile, security: Security, plan: &[u8], answer: &mut Answer) -> u32
+    ensures { TellsOfPlan (PlanScriptSays file.now security plan.now)
+        (HasNoScript file.now.profile security plan.now) result answer.new }
+{
+    answer.clear();
+    let rows = &mut ArrayVec::<PlanRow<'_>, ROWS>::new();
+    let room = &mut [State::new(); SEARCH_ROOM];
+    match append_plan(rows, room, file.hart(), security, plan, answer) {
+        Ok(()) => {
+            answer.line = 0;
+            ANSWERED
+        }
+        Err(fault) => refuse_plan(answer, fault),
+    }
+}
+
+/// Writes the verdicts on a plan's rows by this register file, and returns the status.
+pub fn tell_verdicts(file: &RegFile, plan: &[u8], answer: &mut Answer) -> u32
+    ensures { TellsOfPlan (VerdictsSay file.now plan.now) (HasNoVerdicts plan.now) result answer.new }
+{
+    answer.clear();
+    let rows = &mut ArrayVec::<PlanRow<'_>, ROWS>::new();
+    match append_verdicts(rows, file, plan, answer) {
+        Ok(()) => {
+            answer.line = 0;
+            ANSWERED
+        }
+        Err(fault) => refuse_plan(answer, AnswerFault::Text(fault)),
+    }
+}
