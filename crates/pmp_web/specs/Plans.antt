@@ -50,7 +50,7 @@ row_in_plan (fault.Overlap row other) = next_row row
 row_in_plan (fault.TooFine row field) = next_row row
 row_in_plan (fault.PastEnd row) = next_row row
 row_in_plan (fault.BadPair row) = next_row row
-row_in_plan (fault.FewEntries found row takes) = next_row row
+row_in_plan (fault.FewEntries found row takes) = if takes == 0 then 0 else next_row row
 row_in_plan _ = 0
 
 abbrev pub plan_row : AnswerFault → ℕ

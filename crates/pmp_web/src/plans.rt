@@ -87,8 +87,8 @@ fn row_in_plan(fault: PlanFault) -> u64
         PlanFault::Overlap { row, .. }
         | PlanFault::TooFine { row, .. }
         | PlanFault::PastEnd { row }
-        | PlanFault::BadPair { row }
-        | PlanFault::FewEntries { row, .. } => (row as u64).saturating_add(1),
+        | PlanFault::BadPair { row } => (row as u64).saturating_add(1),
+        PlanFault::FewEntries { row, takes, .. } if takes > 0 => (row as u64).saturating_add(1),
         _ => 0,
     }
 }
