@@ -241,6 +241,28 @@ async function findingsSet(policyName, oldName, policy, old, by, afters) {
     return findingsShown();
 }
 
+// The row that the fault of a plan or of names leads to.
+function rowGoneTo(id) {
+    if (!isSeen(byId(`${id}-go`))) return '';
+    byId(`${id}-go`).click();
+    const {value, selectionStart, selectionEnd} = byId(id);
+    return value.slice(selectionStart, selectionEnd);
+}
+
+// Findings.
+
+const lintOf = (text) => asList(page.unit.lint(encodeText(text)));
+
+async function lintShown() {
+    await page.findings.finished;
+    return {
+        rows: rowsOf('findings').map((cells) => cells.join(',')),
+        count: byId('findings-count').textContent,
+        texts: [...byId('remedies').children].map((it) => it.textContent),
+        lines: linesGoneTo('findings'),
+    };
+}
+
 // Plans.
 
 const meetsOf = (text, after, plan) => asList(page.unit.meets(encodeText(text), after, encodeText(plan)));
@@ -262,14 +284,6 @@ function planShown() {
         advice: seen ? byId('plan-fault-advice').textContent : '',
         makes: !byId('plan-make').disabled,
     };
-}
-
-// The row that the plan's fault leads to.
-function planGoneTo() {
-    if (!isSeen(byId('plan-go'))) return '';
-    byId('plan-go').click();
-    const {value, selectionStart, selectionEnd} = byId('plan');
-    return value.slice(selectionStart, selectionEnd);
 }
 
 // Where the slider has been moved, what is shown of the plan.
@@ -301,18 +315,11 @@ function giveNames(text) {
     };
 }
 
-// The row that the names' fault leads to.
-function namesGoneTo() {
-    if (!isSeen(byId('names-go'))) return '';
-    byId('names-go').click();
-    const {value, selectionStart, selectionEnd} = byId('names');
-    return value.slice(selectionStart, selectionEnd);
-}
-
 // How many cells the rows of each table with ranges have, and what is said of the access.
 async function namesShown() {
     await page.demands.finished;
-    const counts = ['runs', 'entries', 'verdicts', 'differences'].map((id) => rowsOf(id).map((cells) => cells.length));
+    const ids = ['runs', 'entries', 'verdicts', 'differences', 'findings'];
+    const counts = ids.map((id) => rowsOf(id).map((cells) => cells.length));
     return [counts.map((it) => [...new Set(it)]), byId('access-now').textContent];
 }
 

@@ -57,7 +57,7 @@ class Names:
         for name, text in GIVEN.items():
             for boot in BOOTS:
                 tab.call("openBoot", boot)
-                self.tally.compare(f"{name}: heads", self.give(tab, text), {"line": "", "advice": "", "heads": 4})
+                self.tally.compare(f"{name}: heads", self.give(tab, text), {"line": "", "advice": "", "heads": 5})
                 self.compare_rows(tab, f"{boot} with {name}", boots, boot)
         self.compare_at_once(tab)
         self.compare_starts(tab, boots["smepmp-boot"])
@@ -116,10 +116,10 @@ class Names:
         tab.call("verdictsShown", POLICY, "publication")
         tab.call("differencesShown", "pmp 1\n", ["", ""])
         tab.call("choose", ["S", "store", "firmware", "8"])
-        without = [[[5], [10], [7], [7]], "Refused 24 BadWord"]
+        without = [[[5], [10], [7], [7], [7]], "Refused 24 BadWord"]
         self.tally.compare("without names", tab.ask("namesShown()"), without)
         self.give(tab, MADE)
-        given = [[[6], [11], [8], [8]], "Fault 7, by the rule of entry 0."]
+        given = [[[6], [11], [8], [8], [8]], "Fault 7, by the rule of entry 0."]
         self.tally.compare("as soon as names are given", tab.ask("namesShown()"), given)
         self.give(tab, FAULTY["turned"])
         self.tally.compare("as soon as names are at fault", tab.ask("namesShown()"), without)
@@ -150,7 +150,7 @@ class Names:
             advice = f"Wanted: {wanted[1]}." if wanted else refusals[str(status)]["advice"]
             self.tally.compare(f"{name}: the page", shown, {"line": line, "advice": advice, "heads": 0})
             row = int(place.removeprefix("names row ") or 0)
-            self.tally.compare(f"{name}: the row", tab.ask("namesGoneTo()"), text.split("\n")[row] if row else "")
+            self.tally.compare(f"{name}: the row", tab.ask("rowGoneTo('names')"), text.split("\n")[row] if row else "")
         self.tally.compare("names too long", tab.ask("readNames('first', 4).fault.status"), 17)
 
     def compare_files(self, tab):

@@ -205,7 +205,7 @@ class Plans:
             wanted = {"rows": [], "count": "", "makes": False, "advice": WANTED.get(status, known["advice"]),
                       "line": f"{f'Plan row {row}: refused' if row else 'Refused'} {status} {known['name']}"}
             self.tally.compare(f"a plan at fault, {name}", tab.call("givePlan", plan), wanted)
-            self.tally.compare(f"a plan at fault, {name}: the row", tab.ask("planGoneTo()"),
+            self.tally.compare(f"a plan at fault, {name}: the row", tab.ask("rowGoneTo('plan')"),
                                plan.split("\n")[row] if row else "")
 
     def compare_made(self, tab):

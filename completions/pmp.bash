@@ -8,15 +8,16 @@ _pmp() {
     fi
     case ${COMP_WORDS[1]} in
         check) words='--explain --after --expect --names M S U fetch load store stdin'; files=yes ;;
-        why) words='--explain --after --names M S U fetch load store stdin'; files=yes ;;
+        why) words='--explain --after --names --format M S U fetch load store stdin'; files=yes ;;
         audit) words='--explain --checkers --long --jobs --first-row --names stdin'; files=yes ;;
-        policy) words='--explain --each-write --strict --names stdin'; files=yes ;;
+        policy) words='--explain --each-write --strict --from --names --format stdin'; files=yes ;;
         dump) words='--explain --after --script stdin'; files=yes ;;
-        map | picture | entries) words='--explain --after --names stdin'; files=yes ;;
-        writes) words='--explain stdin'; files=yes ;;
-        lint) words='--explain --accept --names stdin'; files=yes ;;
-        diff) words='--explain --old-after --new-after --only --locks --names stdin'; files=yes ;;
-        harts) words='--explain --locks --names'; files=yes ;;
+        picture) words='--explain --after --names stdin'; files=yes ;;
+        map | entries) words='--explain --after --names --format stdin'; files=yes ;;
+        writes) words='--explain --accept --format stdin'; files=yes ;;
+        lint) words='--explain --accept --names --format stdin'; files=yes ;;
+        diff) words='--explain --old-after --new-after --only --locks --names --format stdin'; files=yes ;;
+        harts) words='--explain --locks --names --format'; files=yes ;;
         import)
             words='--explain --hart --xlen --entries --grain --address-bits --smepmp --bursts --folder stdin'
             case $COMP_CWORD,$word in
@@ -37,8 +38,11 @@ _pmp() {
         --only) words='more less' files= ;;
         --accept)
             words='rlb-left-on mmwp-off open-before-locked never-decides write-and-execute open-between late-write'
+            [ "${COMP_WORDS[1]}" = lint ] ||
+                words='absent bits frozen tor reserved lockdown sticky bypass grain differs'
             files=
             ;;
+        --format) words='csv json markdown junit sarif' files= ;;
         --checkers) words='1 2 3 4 5 6 7 8' files= ;;
         --xlen) words='32 64' files= ;;
         --smepmp) words='yes no' files= ;;

@@ -26,6 +26,10 @@ complete -c pmp -n '__fish_seen_subcommand_from check why audit policy map pictu
 complete -c pmp -n '__fish_seen_subcommand_from lint' -l accept -x \
     -a 'rlb-left-on mmwp-off open-before-locked never-decides write-and-execute open-between late-write' \
     -d 'leave out findings with this name'
+complete -c pmp -n '__fish_seen_subcommand_from writes' -l accept -x \
+    -a 'absent bits frozen tor reserved lockdown sticky bypass grain differs' -d 'take no notice of this reason'
+complete -c pmp -n '__fish_seen_subcommand_from why policy map entries writes lint diff harts' -l format -x \
+    -a 'csv json markdown junit sarif' -d 'write the rows in this form'
 complete -c pmp -n '__fish_seen_subcommand_from dump' -l script -d 'write a script of these registers'
 complete -c pmp -n '__fish_seen_subcommand_from check' -l expect -x -a 'allow fault' \
     -d 'end with status 0 where this is the answer'
@@ -37,6 +41,7 @@ complete -c pmp -n '__fish_seen_subcommand_from audit' -l first-row -x \
     -d "give a long trace's first row the number N"
 complete -c pmp -n '__fish_seen_subcommand_from policy' -l each-write -d 'ask after each write too'
 complete -c pmp -n '__fish_seen_subcommand_from policy' -l strict -d 'refuse a policy without rows'
+complete -c pmp -n '__fish_seen_subcommand_from policy' -l from -d 'write a policy of what is closed'
 complete -c pmp -n '__fish_seen_subcommand_from diff' -l old-after -x \
     -a 'last mml mmwp rlb-clear' -d 'take the first N publications of the old script'
 complete -c pmp -n '__fish_seen_subcommand_from diff' -l new-after -x \

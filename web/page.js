@@ -35,7 +35,9 @@ class Page {
         this.editor = new Editor(byId('script'), byId('gutter'));
         this.picture = new Picture(byId('picture'), data.darkPicture);
         this.names = new Names(() => this.namesChanged());
-        this.access = new Access(unit, this.names, (line) => this.editor.goTo(line));
+        const goTo = (line) => this.editor.goTo(line);
+        this.access = new Access(unit, this.names, goTo);
+        this.findings = new Findings(unit, this.names, goTo);
         const changed = () => this.noteAddress();
         this.demands = new Demands(unit, this.names, data.policies, (moment) => this.goToMoment(moment), changed);
         const kept = () => (this.name === '' ? {text: this.editor.text} : {name: this.name});
@@ -195,14 +197,17 @@ class Page {
         if (this.boot.fault === null) {
             this.showWrites();
             this.moveTo(this.moment);
-            this.demands.ask(this.boot);
-            this.differences.ask(this.boot);
         } else {
-            this.demands.ask(null);
-            this.differences.ask(null);
             const wrong = {kind: 'wrong', sign: SIGNS.wrong};
             this.editor.mark((line) => (line === this.boot.fault.line ? wrong : undefined), 0);
         }
+        this.askOfAll();
+    }
+
+    // Asks what doesn't depend on the moment, of the script, or of none where it is at fault.
+    askOfAll() {
+        const boot = this.isAnswered ? this.boot : null;
+        for (const part of [this.findings, this.demands, this.differences]) part.ask(boot);
     }
 
     moveTo(moment) {
@@ -216,7 +221,7 @@ class Page {
         this.markLines(this.boot.eventsAt(this.moment));
     }
 
-    // The moment of a finding, where the sliders are seen and have the focus.
+    // The moment of a breach, where the sliders are seen and have the focus.
     goToMoment(moment) {
         this.moveTo(moment);
         byId(moment.by).focus();
@@ -234,8 +239,7 @@ class Page {
         if (this.isAnswered) {
             this.access.take(this.boot, this.moment.by);
             this.showAnswers();
-            this.demands.ask(this.boot);
-            this.differences.ask(this.boot);
+            this.askOfAll();
         }
         this.noteAddress();
     }
@@ -351,16 +355,8 @@ class Page {
             row.className = fields[7];
             makeButton(row.cells[2], `Line ${line} of the script`, () => this.editor.goTo(line));
         });
-        this.showReasons(new Set(lines.flatMap((fields) => fields[8].match(/[a-z]+/g) ?? [])));
-    }
-
-    showReasons(reasons) {
-        const items = [...reasons].flatMap((reason) => {
-            const [name, when] = [document.createElement('dt'), document.createElement('dd')];
-            [name.textContent, when.textContent] = [reason, data.reasons[reason]];
-            return [name, when];
-        });
-        byId('reasons').replaceChildren(...items);
+        const reasons = new Set(lines.flatMap((fields) => fields[8].match(/[a-z]+/g) ?? []));
+        fillTexts(byId('reasons'), [...reasons].map((reason) => [reason, data.reasons[reason]]));
     }
 
     async copyReport() {

@@ -9,9 +9,11 @@ function reportOf(page) {
         ['Entries', 'entries', rowsSeen('entries')],
         ['Policy', 'verdicts', rowsSeen('verdicts')],
         ['Difference', 'differences', rowsSeen('differences')],
+        ['Findings', 'findings', rowsSeen('findings'), 'remedies'],
         ['Writes that aren’t stored as written', 'writes', rowsSeen('writes')],
     ].filter(([, , lines]) => lines.length > 0);
-    const tables = parts.map(([title, id, lines]) => `\n## ${title}\n\n${markdownTable(byId(id), lines)}`);
+    const tables = parts.map(([title, id, lines, texts]) => `\n## ${title}\n\n${markdownTable(byId(id), lines)}`
+        + (texts ? markdownTexts(byId(texts)) : ''));
     const why = [...byId('why').children].map((sentence) => `- ${markdownText(sentence.textContent)}\n`).join('');
     const access = ['mode', 'kind', 'start', 'length'].map((id) => byId(id).value).join(' ');
     return `# ${markdownText(page.name || 'A script')} after ${by} ${at}\n\n`
@@ -28,6 +30,12 @@ function markdownTable(table, lines) {
     const names = columnsOf(table);
     const rows = [names.map(markdownText), names.map(() => '---'), ...lines.map((fields) => fields.map(markdownText))];
     return rows.map((fields) => `| ${fields.join(' | ')} |\n`).join('');
+}
+
+// A list of terms, each a paragraph of its own.
+function markdownTexts(list) {
+    const texts = [...list.children].map((one) => markdownText(one.textContent));
+    return texts.map((text, place) => (place % 2 === 0 ? `\n${text}: ` : `${text}\n`)).join('');
 }
 
 // A text whose signs Markdown doesn't read.

@@ -35,6 +35,15 @@ function fillTable(table, lines, dress = () => {}) {
     });
 }
 
+// Pairs of a word and its text, as a list of terms.
+function fillTexts(list, texts) {
+    list.replaceChildren(...texts.flatMap(([word, text]) => {
+        const [term, description] = [document.createElement('dt'), document.createElement('dd')];
+        [term.textContent, description.textContent] = [word, text];
+        return [term, description];
+    }));
+}
+
 // A cell's text as a button.
 function makeButton(cell, label, act) {
     const button = document.createElement('button');

@@ -52,6 +52,10 @@ class Unit {
         return this.ask('writes', script);
     }
 
+    lint(script) {
+        return this.ask('lint', script);
+    }
+
     map(script, after) {
         return this.ask('view', script, BigInt(after), VIEWS.map);
     }

@@ -29,3 +29,13 @@ pub mod OnePolicyAnswer
 pub mod Differences
 pub mod OneDifference
 pub mod WholeAudits
+pub mod AnsweredBytes
+pub mod OneClosedList
+pub mod PlainRows
+pub mod ReadNumbers
+pub mod DraftFields
+pub mod DraftRows
+pub mod DraftHolds
+pub mod DraftSteps
+pub mod OneDraft
+pub mod WrittenDrafts

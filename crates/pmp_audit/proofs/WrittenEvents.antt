@@ -14,8 +14,9 @@ use Rattle.pmp_core.specs.RegisterWrite.{step}
 use Rattle.pmp_text.specs.Contents.{ScriptContents}
 use Rattle.pmp_text.specs.Effects.{effect_row}
 use Rattle.pmp_text.proofs.SpacedWords.{range_more}
+use Rattle.pmp_audit.specs.declared.accepted_reason.AcceptedReason.{AcceptedReason}
 use Rattle.pmp_audit.specs.declared.write_list.EventSummary.{EventSummary}
-use Rattle.pmp_audit.specs.WriteList.{PlacedEvent, placed, events_of, file_before, rows_text, is_not_stored}
+use Rattle.pmp_audit.specs.WriteList.{PlacedEvent, placed, events_of, file_before, rows_text, has_fault}
 use Rattle.pmp_audit.specs.WriteList.{event_summary}
 use Rattle.pmp_audit.specs.EventRows.{file_left, rows_from, turned_from, Written, AreWritten}
 
@@ -41,14 +42,16 @@ left-append : (file : RegisterFile) (xs ys : List PlacedEvent)
 left-append file [] ys = refl
 left-append file (it ∷ xs) ys = left-append (step file it.event) xs ys
 
-turned-append : (file : RegisterFile) (xs ys : List PlacedEvent)
-    → turned_from file (xs ++ ys) ≡ turned_from file xs + turned_from (file_left file xs) ys
-turned-append file [] ys = omega arith
-turned-append file (it ∷ xs) ys = let rest = turned-append (step file it.event) xs ys in omega arith
+turned-append : (accepted : List AcceptedReason) (file : RegisterFile) (xs ys : List PlacedEvent)
+    → turned_from accepted file (xs ++ ys)
+    ≡ turned_from accepted file xs + turned_from accepted (file_left file xs) ys
+turned-append accepted file [] ys = omega arith
+turned-append accepted file (it ∷ xs) ys =
+    let rest = turned-append accepted (step file it.event) xs ys in omega arith
 
-pub written_then : (from mid to : Written) (xs ys : List PlacedEvent) → AreWritten from mid xs → AreWritten mid to ys
-    → AreWritten from to (xs ++ ys)
-written_then from mid to xs ys first second =
+pub written_then : (accepted : List AcceptedReason) (from mid to : Written) (xs ys : List PlacedEvent)
+    → AreWritten accepted from mid xs → AreWritten accepted mid to ys → AreWritten accepted from to (xs ++ ys)
+written_then accepted from mid to xs ys first second =
     let n = from.summary.events + 1 in
     let number : mid.summary.events + 1 ≡ n + length xs = let c = first.counted in omega arith in
     record {
@@ -63,21 +66,21 @@ written_then from mid to xs ys first second =
       counted = omega (arith, first.counted, second.counted, length-append xs ys);
       turned =
           let one = first.turned in
-          let two = second.turned ∙ ap (λ (file : RegisterFile). mid.summary.not_stored + turned_from file ys)
+          let two = second.turned ∙ ap (λ (file : RegisterFile). mid.summary.not_stored + turned_from accepted file ys)
           first.file_is in
-          let both = turned-append from.file xs ys in
+          let both = turned-append accepted from.file xs ys in
           omega arith;
     }
 
-pub one_written : (from to : Written) (it : PlacedEvent)
+pub one_written : (accepted : List AcceptedReason) (from to : Written) (it : PlacedEvent)
     → to.text ≡ from.text ++ effect_row (record {
       number = from.summary.events + 1;
       publication = it.publication;
       line = it.line;
     }) from.file it.event → to.file ≡ step from.file it.event → to.summary.events ≡ from.summary.events + 1
-    → to.summary.not_stored ≡ from.summary.not_stored + cond (is_not_stored from.file it.event) 1 0
-    → AreWritten from to (it ∷ [])
-one_written from to it row file counted turned = record {
+    → to.summary.not_stored ≡ from.summary.not_stored + cond (has_fault accepted from.file it.line it.event) 1 0
+    → AreWritten accepted from to (it ∷ [])
+one_written accepted from to it row file counted turned = record {
   rows = row ∙ ap (λ (l : List ℕ). from.text ++ l) (sym (append-nil _));
   file_is = file;
   counted = counted;
@@ -127,37 +130,38 @@ module _ (start : RegisterFile) where
       ++ flat_map (λ (k, x). row_at all k x) (enumerate_from (length before + 1) rest)) (there before rest it)
       ∙ ap (λ (l : List ℕ). row file ++ l) tail
 
-  turned_by_place : (before rest : List PlacedEvent)
-      → count_by (λ (k, it). is_not_stored (file_before start (before ++ rest) k) it.event)
+  turned_by_place : (accepted : List AcceptedReason) (before rest : List PlacedEvent)
+      → count_by (λ (k, it). has_fault accepted (file_before start (before ++ rest) k) it.line it.event)
       (enumerate_from (length before) rest)
-      ≡ turned_from (file_left start before) rest
-  turned_by_place before [] = refl
-  turned_by_place before (it ∷ rest) =
+      ≡ turned_from accepted (file_left start before) rest
+  turned_by_place accepted before [] = refl
+  turned_by_place accepted before (it ∷ rest) =
       let all = before ++ it ∷ rest in
       let file = file_left start before in
-      let more = count_by (λ (k, x). is_not_stored (file_before start all k) x.event)
+      let more = count_by (λ (k, x). has_fault accepted (file_before start all k) x.line x.event)
       (enumerate_from (length before + 1) rest) in
-      let tail : more ≡ turned_from (step file it.event) rest =
+      let tail : more ≡ turned_from accepted (step file it.event) rest =
       rw (moved it before rest, length_push before it, next_file it before rest) at
-      (turned_by_place (before ++ it ∷ []) rest) in
-      sum_by-cons (λ (k, x). cond (is_not_stored (file_before start all k) x.event) 1 0)
+      (turned_by_place accepted (before ++ it ∷ []) rest) in
+      sum_by-cons (λ (k, x). cond (has_fault accepted (file_before start all k) x.line x.event) 1 0)
       (length before, it) (enumerate_from (length before + 1) rest)
-      ∙ ap (λ (f : RegisterFile). cond (is_not_stored f it.event) 1 0 + more) (there before rest it)
-      ∙ ap (λ (m : ℕ). cond (is_not_stored file it.event) 1 0 + m) tail
+      ∙ ap (λ (f : RegisterFile). cond (has_fault accepted f it.line it.event) 1 0 + more) (there before rest it)
+      ∙ ap (λ (m : ℕ). cond (has_fault accepted file it.line it.event) 1 0 + m) tail
 
   pub rows_all : (events : List PlacedEvent) → rows_from 1 start events ≡ rows_text start events
   unfolding rows_text
   rows_all events = sym (rows_by_place [] events)
 
-  pub summary_all : (events : List PlacedEvent) (summary : EventSummary) → summary.events ≡ 0 + length events
-      → summary.not_stored ≡ 0 + turned_from start events → summary ≡ event_summary start events
+  pub summary_all : (accepted : List AcceptedReason) (events : List PlacedEvent) (summary : EventSummary)
+      → summary.events ≡ 0 + length events → summary.not_stored ≡ 0 + turned_from accepted start events
+      → summary ≡ event_summary accepted start events
   unfolding event_summary
-  summary_all events summary all_counted all_turned =
+  summary_all accepted events summary all_counted all_turned =
       let counted : summary.events ≡ length events = omega arith in
-      let turned : summary.not_stored ≡ turned_from start events = omega arith in
+      let turned : summary.not_stored ≡ turned_from accepted start events = omega arith in
       ap (λ (m : ℕ). record { events = m; not_stored = summary.not_stored }) counted
       ∙ ap (λ (m : ℕ). record { events = length events; not_stored = m })
-      (turned ∙ sym (turned_by_place [] events))
+      (turned ∙ sym (turned_by_place accepted [] events))
 
 -- ---- the events of a publication
 

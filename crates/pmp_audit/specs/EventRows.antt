@@ -3,8 +3,9 @@ use Rattle.std.specs.Prelude.{◌≡◌, ℕ, ◌+◌, List, [], ◌∷◌, ◌+
 use Rattle.pmp_core.specs.RegisterFile.{RegisterFile}
 use Rattle.pmp_core.specs.RegisterWrite.{step}
 use Rattle.pmp_text.specs.Effects.{effect_row}
+use Rattle.pmp_audit.specs.declared.accepted_reason.AcceptedReason.{AcceptedReason}
 use Rattle.pmp_audit.specs.declared.write_list.EventSummary.{EventSummary}
-use Rattle.pmp_audit.specs.WriteList.{PlacedEvent, is_not_stored}
+use Rattle.pmp_audit.specs.WriteList.{PlacedEvent, has_fault}
 
 abbrev pub file_left : RegisterFile → List PlacedEvent → RegisterFile
 file_left file events = fold step file (map (λ it. it.event) events)
@@ -16,11 +17,11 @@ rows_from number file (it ∷ rest) =
     effect_row (record { number = number; publication = it.publication; line = it.line }) file it.event
     ++ rows_from (number + 1) (step file it.event) rest
 
--- how many of them aren't stored as written
-abbrev pub turned_from : RegisterFile → List PlacedEvent → ℕ
-turned_from file [] = 0
-turned_from file (it ∷ rest) =
-    (if is_not_stored file it.event then 1 else 0) + turned_from (step file it.event) rest
+-- how many of them aren't stored as written, and that isn't accepted
+abbrev pub turned_from : List AcceptedReason → RegisterFile → List PlacedEvent → ℕ
+turned_from accepted file [] = 0
+turned_from accepted file (it ∷ rest) =
+    (if has_fault accepted file it.line it.event then 1 else 0) + turned_from accepted (step file it.event) rest
 
 -- a text, a register file, and the counts
 pub record Written : Type 0 where
@@ -29,8 +30,8 @@ pub record Written : Type 0 where
   pub summary : EventSummary
 
 -- these events lead from the one state to the other, are counted, and their rows were appended
-pub record AreWritten (from to : Written) (events : List PlacedEvent) : Type 0 where
+pub record AreWritten (accepted : List AcceptedReason) (from to : Written) (events : List PlacedEvent) : Type 0 where
   pub rows : to.text ≡ from.text ++ rows_from (from.summary.events + 1) from.file events
   pub file_is : to.file ≡ file_left from.file events
   pub counted : to.summary.events ≡ from.summary.events + length events
-  pub turned : to.summary.not_stored ≡ from.summary.not_stored + turned_from from.file events
+  pub turned : to.summary.not_stored ≡ from.summary.not_stored + turned_from accepted from.file events

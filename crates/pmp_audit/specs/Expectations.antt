@@ -1,5 +1,5 @@
 -- The rows of what a script expects.
-use Rattle.std.specs.Prelude.{ℕ, ◌==◌, Bool, not, List, fold, take, count_by}
+use Rattle.std.specs.Prelude.{ℕ, ◌==◌, ◌&&◌, Bool, not, List, fold, take, count_by}
 use Rattle.std.specs.List.{flat_map}
 use Rattle.pmp_core.specs.Histories.{joined}
 use Rattle.pmp_core.specs.RegisterFile.{RegisterFile}
@@ -8,6 +8,9 @@ use Rattle.pmp_core.specs.RegisterWrite.{step}
 use Rattle.pmp_text.specs.declared.expectation.Expectation.{Expectation}
 use Rattle.pmp_text.specs.Contents.{ScriptContents}
 use Rattle.pmp_text.specs.Expected.{expected_row}
+use Rattle.pmp_audit.specs.AcceptedReasons.{is_accepted_at}
+use Rattle.pmp_audit.specs.declared.accepted_reason.AcceptedReason.{AcceptedReason}
+use Rattle.pmp_audit.specs.declared.accepted_reason.Difference.TheVariants.{Unexpected}
 
 -- the register file after the first `events` events of a script
 abbrev pub file_at_event : ScriptContents → (events : ℕ) → RegisterFile
@@ -25,6 +28,7 @@ abbrev pub expected_rows : ScriptContents → List Expectation → List ℕ
 expected_rows script expectations =
     flat_map (λ expectation. expected_row expectation (value_there script expectation)) expectations
 
--- how many of them differ
-abbrev pub differing : ScriptContents → List Expectation → ℕ
-differing script expectations = count_by (differs script) expectations
+-- how many of them differ where that isn't accepted
+abbrev pub differing : List AcceptedReason → ScriptContents → List Expectation → ℕ
+differing accepted script expectations =
+    count_by (λ it. differs script it && not (is_accepted_at accepted Unexpected it.line)) expectations

@@ -18,6 +18,7 @@ use Rattle.pmp_audit.specs.AskedFile.{SaysOfScript}
 use Rattle.pmp_audit.specs.ScriptDiff.{DiffSays}
 use Rattle.pmp_audit.specs.EntryList.{IsEntryList}
 use Rattle.pmp_audit.specs.PolicyCheck.{PolicySays}
+use Rattle.pmp_audit.specs.PolicyDraft.{IsDraftOf}
 use Rattle.pmp_audit.specs.Since.{IsSince}
 use Rattle.pmp_audit.specs.TraceAudit.{AuditSays}
 
@@ -35,6 +36,15 @@ abbrev pub OnePolicyAnswerLaw : Type 0
 OnePolicyAnswerLaw = (pace : Pace) (script policy : List ℕ) (one other : PolicySummary) (text another : List ℕ)
     → PolicySays pace script policy one text → PolicySays pace script policy other another
     → (one ≡ other) × (text ≡ another)
+
+-- a script has only one draft of a policy
+abbrev pub OneDraftLaw : Type 0
+OneDraftLaw = (script one other : List ℕ) → IsDraftOf script one → IsDraftOf script other → one ≡ other
+
+-- of a script and its draft, `check_policy` says that no row is broken or unmet
+abbrev pub DraftHoldsLaw : Type 0
+DraftHoldsLaw = (pace : Pace) (script draft : List ℕ) (summary : PolicySummary) (text : List ℕ)
+    → IsDraftOf script draft → PolicySays pace script draft summary text → summary.broken ≡ 0
 
 -- two scripts have only one list of differences, and one number of its rows
 abbrev pub OneDifferenceLaw : Type 0

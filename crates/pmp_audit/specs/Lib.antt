@@ -7,6 +7,7 @@ pub mod LongAudit
 pub mod AskedFile
 pub mod View
 pub mod ScriptDiff
+pub mod AcceptedReasons
 pub mod Expectations
 pub mod WriteList
 pub mod Reasons
@@ -14,6 +15,8 @@ pub mod Since
 pub mod EntryList
 pub mod Moments
 pub mod PolicyCheck
+pub mod ClosedRanges
+pub mod PolicyDraft
 pub mod Fault
 -- Laws of these definitions, all proved.
 pub mod Laws
@@ -29,6 +32,7 @@ pub mod Working
 pub mod Rounds
 pub mod LongPieces
 pub mod LongParts
+pub mod AnsweredBytes
 pub mod PolicyQuestions
 pub mod PolicySweep
 pub mod PolicyRows

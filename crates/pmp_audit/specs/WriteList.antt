@@ -1,5 +1,6 @@
 -- Output about a script's events, and when it is refused.
-use Rattle.std.specs.Prelude.{◌≡◌, ℕ, ◌+◌, ◌==◌, Bool, false, not, List, [], ◌++◌, length, map, take, count_by, fold, Ok, Err}
+use Rattle.std.specs.Prelude.{◌≡◌, ℕ, ◌+◌, ◌==◌, ◌&&◌, Bool, false, not, List, [], ◌++◌, length, map, take, count_by}
+use Rattle.std.specs.Prelude.{fold, Ok, Err}
 use Rattle.std.specs.List.{enumerate_from, flat_map, range_with_len, slice_index_or, zip}
 use Rattle.pmp_core.specs.declared.event.Event.{Event}
 use Rattle.pmp_core.specs.declared.event.Event.TheVariants.{Write, Reset}
@@ -9,6 +10,8 @@ use Rattle.pmp_core.specs.RegisterWrite.{step, written}
 use Rattle.pmp_text.specs.Contents.{ScriptContents}
 use Rattle.pmp_text.specs.Effects.{effect_row}
 use Rattle.pmp_text.specs.Scripts.{script_meaning}
+use Rattle.pmp_audit.specs.AcceptedReasons.{has_other_reason}
+use Rattle.pmp_audit.specs.declared.accepted_reason.AcceptedReason.{AcceptedReason}
 use Rattle.pmp_audit.specs.declared.fault.AuditFault.{AuditFault}
 use Rattle.pmp_audit.specs.declared.fault.AuditFault.TheVariants.{Script}
 use Rattle.pmp_audit.specs.declared.write_list.EventSummary.{EventSummary}
@@ -53,11 +56,18 @@ abbrev pub is_not_stored : RegisterFile → Event → Bool
 is_not_stored file (Write csr value) = not (register_value (written file csr value) csr == value)
 is_not_stored file Reset = false
 
+-- such a write with a reason that isn't accepted
+abbrev pub has_fault : List AcceptedReason → RegisterFile → (line : ℕ) → Event → Bool
+has_fault accepted file line (Write csr value) =
+    is_not_stored file (Write csr value) && has_other_reason accepted line file csr value
+has_fault accepted file line Reset = false
+
 -- the number of events, and of such writes
-unfoldable pub event_summary : (start : RegisterFile) → List PlacedEvent → EventSummary
-event_summary start events = record {
+unfoldable pub event_summary : List AcceptedReason → (start : RegisterFile) → List PlacedEvent → EventSummary
+event_summary accepted start events = record {
   events = length events;
-  not_stored = count_by (λ (k, it). is_not_stored (file_before start events k) it.event) (enumerate_from 0 events);
+  not_stored = count_by (λ (k, it). has_fault accepted (file_before start events k) it.line it.event)
+      (enumerate_from 0 events);
 }
 
 -- the rows of events, then those of expectations
@@ -65,22 +75,23 @@ abbrev pub all_rows : ScriptContents → List ℕ
 all_rows script = rows_text script.start (placed_events script) ++ expected_rows script script.expectations
 
 -- the counts of both
-abbrev pub write_summary : ScriptContents → WriteSummary
-write_summary script =
-    let of_events = event_summary script.start (placed_events script) in
+abbrev pub write_summary : List AcceptedReason → ScriptContents → WriteSummary
+write_summary accepted script =
+    let of_events = event_summary accepted script.start (placed_events script) in
     record {
       events = of_events.events;
       not_stored = of_events.not_stored;
       expectations = length script.expectations;
-      differing = differing script script.expectations;
+      differing = differing accepted script script.expectations;
     }
 
 -- the script has these contents, the text has a row for each of its events and expectations, and they are counted
-pub record WritesSay (script : List ℕ) (summary : WriteSummary) (text : List ℕ) : Type 0 where
+pub record WritesSay (accepted : List AcceptedReason) (script : List ℕ) (summary : WriteSummary) (text : List ℕ)
+    : Type 0 where
   pub contents : ScriptContents
   pub script_means : script_meaning script ≡ Ok contents
   pub rows : text ≡ all_rows contents
-  pub counted : summary ≡ write_summary contents
+  pub counted : summary ≡ write_summary accepted contents
 
 -- the script's own fault
 abbrev pub WritesRefuse : (script : List ℕ) → AuditFault → Type 0

@@ -4,6 +4,7 @@ ghost use Rattle.std.specs.Prelude.{◌≡◌, ◌++◌, IfOk, OnErr};
 ghost use Rattle.pmp_audit.specs.Growing.{HasGrown};
 ghost use Rattle.pmp_audit.specs.Expectations.{differing, expected_rows, file_at_event};
 
+use crate::accepted_reason::{AcceptedReason, Difference, is_accepted_at};
 use pmp_core::RegFile;
 use pmp_text::{Script, Sink, write_expected};
 use std::alloc::AllocError;
@@ -24,11 +25,15 @@ fn advance(script: &Script, file: &mut RegFile, done: u64, events: u64)
     }
 }
 
-/// Appends a row for each expectation, and returns how many of them differ.
-pub fn write_expectations<S: Sink>(out: &mut S, script: &Script) -> Result<u64, AllocError>
+/// Appends a row for each expectation, and returns how many of them differ where that isn't accepted.
+pub fn write_expectations<S: Sink>(
+    out: &mut S,
+    script: &Script,
+    accepted: &[AcceptedReason],
+) -> Result<u64, AllocError>
     ensures rows { IfOk result (λ _. S.text out.new ≡ S.text out.old
         ++ expected_rows script.now script.now.expectations) }
-    ensures counted { IfOk result (λ count. count ≡ differing script.now script.now.expectations) }
+    ensures counted { IfOk result (λ count. count ≡ differing accepted.now script.now script.now.expectations) }
     ensures err { OnErr result (HasGrown (S.text out.old) (S.text out.new)) }
 {
     let mut file = script.start();
@@ -39,7 +44,9 @@ pub fn write_expectations<S: Sink>(out: &mut S, script: &Script) -> Result<u64, 
         done = expectation.events;
         let value = file.read(expectation.register);
         write_expected(out, expectation, value)?;
-        if value != expectation.value {
+        if value != expectation.value
+            && !is_accepted_at(accepted, Difference::Unexpected, expectation.line)
+        {
             count += 1;
         }
     }

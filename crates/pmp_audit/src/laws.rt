@@ -1,7 +1,7 @@
 //! The laws of reports and entry lists, each the contract of a function that does nothing.
 
-ghost use Rattle.pmp_audit.specs.Laws.{OneDifferenceLaw, OneEntryListLaw, OneListOfDecisionsLaw, OnePolicyAnswerLaw};
-ghost use Rattle.pmp_audit.specs.Laws.{OneReportLaw, SinceLaw};
+ghost use Rattle.pmp_audit.specs.Laws.{DraftHoldsLaw, OneDifferenceLaw, OneDraftLaw, OneEntryListLaw};
+ghost use Rattle.pmp_audit.specs.Laws.{OneListOfDecisionsLaw, OnePolicyAnswerLaw, OneReportLaw, SinceLaw};
 
 use pmp_core::laws::{law_one_decision, law_one_span, law_protected};
 use pmp_map::laws::law_one_list_of_compared_runs;
@@ -24,6 +24,16 @@ pub fn law_one_report()
 /// A script and a policy have exactly one answer and one summary.
 pub fn law_one_policy_answer()
     ensures { OnePolicyAnswerLaw }
+{}
+
+/// A script has exactly one draft of a policy.
+pub fn law_one_draft()
+    ensures { OneDraftLaw }
+{}
+
+/// A script breaks no row of its draft of a policy.
+pub fn law_draft_holds()
+    ensures { DraftHoldsLaw }
 {}
 
 /// Two scripts have exactly one list of differences.

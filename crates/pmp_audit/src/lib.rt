@@ -1,6 +1,7 @@
 //! The answers: accesses decided after a script's publications, the resulting registers, and the effect of each write.
 #![tactic(auto)]
 
+mod accepted_reason;
 mod access_check;
 mod answer;
 mod asked_count;
@@ -12,6 +13,7 @@ mod long_audit;
 mod moments;
 mod piece;
 mod policy_check;
+mod policy_draft;
 mod reasons;
 mod replay;
 mod report;
@@ -23,12 +25,14 @@ mod trace_audit;
 mod view;
 mod write_list;
 
+pub use accepted_reason::{AcceptedReason, Difference};
 pub use access_check::{append_check, check};
 pub use fault::{AuditFault, Side};
 pub use gate::{Gate, OpenGate};
 pub use long_audit::{PIECE, audit_long};
 pub use policy_check::{Pace, PolicySummary, append_verdict, check_policy};
-pub use reasons::{append_reasons, explain, lint};
+pub use policy_draft::{append_policy_from, policy_from};
+pub use reasons::{append_findings, append_reasons, explain, lint};
 pub use script_diff::{AskedChanges, append_diff, diff};
 pub use shared_audit::audit_shared;
 pub use trace_audit::{Summary, audit};

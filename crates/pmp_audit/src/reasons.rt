@@ -96,19 +96,23 @@ pub fn lint<W: Write>(
         (WritesRefuse script.now)) }
 {
     let mut text = Vec::new(alloc);
-    let told = find_in(alloc, script, accepted, &mut text);
+    let mut log = GrowingLog::new(alloc);
+    let told = append_findings(&mut log, script, accepted, &mut text);
     write_answer(writer, &text, told)
 }
 
-fn find_in(
-    alloc: Global,
+/// Appends the rows that `lint` writes. The log keeps the script's events; `Memory` means that there is no room for
+/// them there, or none for the rows.
+pub fn append_findings<L: EventLog, S: Sink>(
+    log: &mut L,
     script: &[u8],
     accepted: &[Accepted],
-    out: &mut Vec<u8>,
+    out: &mut S,
 ) -> Result<usize, AuditFault>
-    ensures ok { IfOk result (IsAppended (FindingsSay script.now accepted.now) out.old.items out.new.items) }
+    ensures ok { IfOk result
+        (IsAppended (FindingsSay script.now accepted.now) (S.text out.old) (S.text out.new)) }
     ensures err { IfErr result (Declines (WritesRefuse script.now)) }
+    ensures kept { OnErr result (S.text out.new ≡ S.text out.old) }
 {
-    let mut log = GrowingLog::new(alloc);
-    Ok(append_lint(alloc, &mut log, script, accepted, out)?)
+    Ok(append_lint(log, script, accepted, out)?)
 }

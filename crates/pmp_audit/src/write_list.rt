@@ -1,15 +1,15 @@
 //! The effect of each event of a script on a register.
 
 ghost use Rattle.std.specs.Prelude.{◌≡◌, ◌+◌, ◌^◌, ◌<◌, ◌≤◌, IfOk, IfErr, OnErr, ◌++◌, length, if◌then◌else◌};
-ghost use Rattle.pmp_core.specs.RegisterFile.{RegisterFile};
 ghost use Rattle.pmp_core.specs.RegisterWrite.{step};
 ghost use Rattle.pmp_text.specs.Sizes.{IsInLimits};
 ghost use Rattle.pmp_audit.specs.Answers.{Declines, IsAppended, IsWritten, IsRefused};
 ghost use Rattle.pmp_audit.specs.Growing.{HasGrown};
 ghost use Rattle.pmp_audit.specs.EventRows.{AreWritten};
-ghost use Rattle.pmp_audit.specs.WriteList.{all_rows, placed, placed_events, rows_text, is_not_stored, event_summary};
+ghost use Rattle.pmp_audit.specs.WriteList.{all_rows, placed, placed_events, rows_text, has_fault, event_summary};
 ghost use Rattle.pmp_audit.specs.WriteList.{WritesSay, WritesRefuse, write_summary};
 
+use crate::accepted_reason::{AcceptedReason, has_other_reason};
 use crate::answer::write_answer;
 use crate::expectations::write_expectations;
 use crate::fault::AuditFault;
@@ -20,7 +20,8 @@ use std::alloc::{AllocError, Global};
 use std::io::Write;
 
 /// How many events a script has, how many of them are writes that the register doesn't read back as written, how often
-/// it expects something of a register, and how often that differs.
+/// it expects something of a register, and how often that differs. What is accepted counts neither as such a write nor
+/// as such a difference.
 #[derive(Clone, Copy, Debug, Default, PartialEq, Eq)]
 pub struct WriteSummary {
     pub events: u64,
@@ -38,16 +39,17 @@ pub struct WriteSummary {
 pub fn writes<W: Write>(
     alloc: Global,
     script: &[u8],
+    accepted: &[AcceptedReason],
     writer: &mut W,
 ) -> Result<WriteSummary, AuditFault>
     ensures ok { IfOk result
-        (IsWritten (WritesSay script.now) (W.contents writer.old) (W.contents writer.new)) }
+        (IsWritten (WritesSay accepted.now script.now) (W.contents writer.old) (W.contents writer.new)) }
     ensures err { IfErr result
-        (IsRefused (WritesSay script.now) (W.contents writer.old) (W.contents writer.new)
+        (IsRefused (WritesSay accepted.now script.now) (W.contents writer.old) (W.contents writer.new)
         (WritesRefuse script.now)) }
 {
     let mut text = Vec::new(alloc);
-    let summary = append_writes(&mut GrowingLog::new(alloc), script, &mut text);
+    let summary = append_writes(&mut GrowingLog::new(alloc), script, accepted, &mut text);
     write_answer(writer, &text, summary)
 }
 
@@ -56,16 +58,17 @@ pub fn writes<W: Write>(
 pub fn append_writes<L: EventLog, S: Sink>(
     log: &mut L,
     script: &[u8],
+    accepted: &[AcceptedReason],
     out: &mut S,
 ) -> Result<WriteSummary, AuditFault>
-    ensures ok { IfOk result (IsAppended (WritesSay script.now) (S.text out.old) (S.text out.new)) }
+    ensures ok { IfOk result (IsAppended (WritesSay accepted.now script.now) (S.text out.old) (S.text out.new)) }
     ensures err { IfErr result (Declines (WritesRefuse script.now)) }
     ensures kept { OnErr result (S.text out.new ≡ S.text out.old) }
 {
     let script = read_script(log, script)?;
     law_script_size();
     let before = out.position();
-    let summary = write_script(out, &script);
+    let summary = write_script(out, &script, accepted);
     if summary.is_err() {
         out.go_back(before);
     }
@@ -73,14 +76,18 @@ pub fn append_writes<L: EventLog, S: Sink>(
 }
 
 /// Appends the rows of a script's events, and after them those of its expectations.
-fn write_script<S: Sink>(out: &mut S, script: &Script) -> Result<WriteSummary, AllocError>
+fn write_script<S: Sink>(
+    out: &mut S,
+    script: &Script,
+    accepted: &[AcceptedReason],
+) -> Result<WriteSummary, AllocError>
     requires { IsInLimits script.now.batches }
     ensures rows { IfOk result (λ _. S.text out.new ≡ S.text out.old ++ all_rows script.now) }
-    ensures counted { IfOk result (λ summary. summary ≡ write_summary script.now) }
+    ensures counted { IfOk result (λ summary. summary ≡ write_summary accepted.now script.now) }
     ensures err { OnErr result (HasGrown (S.text out.old) (S.text out.new)) }
 {
-    let EventSummary { events, not_stored } = write_events(out, script)?;
-    let differing = write_expectations(out, script)?;
+    let EventSummary { events, not_stored } = write_events(out, script, accepted)?;
+    let differing = write_expectations(out, script, accepted)?;
     Ok(WriteSummary {
         events,
         not_stored,
@@ -89,29 +96,45 @@ fn write_script<S: Sink>(out: &mut S, script: &Script) -> Result<WriteSummary, A
     })
 }
 
-/// How many events a script has, and how many of them are writes that the register doesn't read back as written.
+/// How many events a script has, and how many of them are writes that the register doesn't read back as written, for a
+/// reason that isn't accepted.
 #[derive(Clone, Copy, Default)]
 struct EventSummary {
     events: u64,
     not_stored: u64,
 }
 
-fn write_events<S: Sink>(out: &mut S, script: &Script) -> Result<EventSummary, AllocError>
+fn write_events<S: Sink>(
+    out: &mut S,
+    script: &Script,
+    accepted: &[AcceptedReason],
+) -> Result<EventSummary, AllocError>
     requires { IsInLimits script.now.batches }
     ensures rows { IfOk result (λ _. S.text out.new ≡ S.text out.old
         ++ rows_text script.now.start (placed_events script.now)) }
     ensures counted { IfOk result
-        (λ summary. summary ≡ event_summary script.now.start (placed_events script.now)) }
+        (λ summary. summary ≡ event_summary accepted.now script.now.start (placed_events script.now)) }
     ensures err { OnErr result (HasGrown (S.text out.old) (S.text out.new)) }
 {
     let mut file = script.start();
     let mut summary = EventSummary::default();
     for index in 0..script.batches() {
-        let lines = script.lines(index);
-        let events = script.batch(index);
-        summary = write_publication(out, &mut file, summary, index + 1, lines, events)?;
+        let publication = Publication {
+            number: index + 1,
+            lines: script.lines(index),
+            events: script.batch(index),
+        };
+        summary = write_publication(out, &mut file, summary, publication, accepted)?;
     }
     Ok(summary)
+}
+
+/// The events of a publication, with its number and their lines.
+#[derive(Clone, Copy)]
+struct Publication<'a> {
+    number: u64,
+    lines: &'a [u64],
+    events: &'a [Event],
 }
 
 /// Appends the rows of a publication's events, and executes them. What comes before them is already counted.
@@ -119,54 +142,62 @@ fn write_publication<S: Sink>(
     out: &mut S,
     file: &mut RegFile,
     before: EventSummary,
-    publication: u64,
-    lines: &[u64],
-    events: &[Event],
+    publication: Publication<'_>,
+    accepted: &[AcceptedReason],
 ) -> Result<EventSummary, AllocError>
-    requires room { before.events + length events.now < 2 ^ 64 }
+    requires room { before.events + length publication.events.now < 2 ^ 64 }
     requires within { before.not_stored ≤ before.events }
-    ensures written { IfOk result (λ after. AreWritten
+    ensures written { IfOk result (λ after. AreWritten accepted.now
         (record { text = S.text out.old; file = file.old; summary = before })
         (record { text = S.text out.new; file = file.new; summary = after })
-        (placed publication lines.now events.now)) }
+        (placed publication.entry.number publication.entry.lines.now publication.entry.events.now)) }
     ensures within { IfOk result (λ after. after.not_stored ≤ after.events) }
     ensures err { OnErr result (HasGrown (S.text out.old) (S.text out.new)) }
 {
     let mut summary = before;
-    for (line, event) in lines.iter().zip(events) {
+    for (line, event) in publication.lines.iter().zip(publication.events) {
         let place = EventPlace {
             number: summary.events + 1,
-            publication,
+            publication: publication.number,
             line: *line,
         };
         let after = write_effect(out, &place, file, *event)?;
-        summary.count(is_not_stored(&after, *event));
+        summary.count(has_fault(accepted, *line, file, &after, *event));
         *file = after;
     }
     Ok(summary)
 }
 
-/// Whether the event, which left this file, is a write that the register then doesn't read back.
-fn is_not_stored(after: &RegFile, event: Event) -> bool
-    ensures { (file : RegisterFile) → after.now ≡ step file event → result ≡ is_not_stored file event }
+/// Whether the event, which meets the one file and leaves the other, is a write that the register then doesn't read
+/// back, for a reason that isn't accepted.
+fn has_fault(
+    accepted: &[AcceptedReason],
+    line: u64,
+    file: &RegFile,
+    after: &RegFile,
+    event: Event,
+) -> bool
+    ensures { after.now ≡ step file.now event → result ≡ has_fault accepted.now file.now line event }
 {
     match event {
-        Event::Write(csr, value) => after.read(csr) != value,
+        Event::Write(csr, value) => {
+            after.read(csr) != value && has_other_reason(accepted, line, file, csr, value)
+        }
         Event::Reset => false,
     }
 }
 
 impl EventSummary {
     /// Counts one more event.
-    fn count(&mut self, is_not_stored: bool)
+    fn count(&mut self, has_fault: bool)
         requires room { self.old.events + 1 < 2 ^ 64 }
         requires within { self.old.not_stored ≤ self.old.events }
         ensures events { self.new.events ≡ self.old.events + 1 }
-        ensures not_stored { self.new.not_stored ≡ self.old.not_stored + (if is_not_stored then 1 else 0) }
+        ensures not_stored { self.new.not_stored ≡ self.old.not_stored + (if has_fault then 1 else 0) }
         ensures within { self.new.not_stored ≤ self.new.events }
     {
         self.events += 1;
-        if is_not_stored {
+        if has_fault {
             self.not_stored += 1;
         }
     }

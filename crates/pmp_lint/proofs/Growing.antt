@@ -1,5 +1,5 @@
 -- Lists that grow by what is found of one number more.
-use Rattle.std.proofs.Common.{◌≡◌, ◌∙◌, ap, sym, ℕ, ◌+◌, List, [], ◌∷◌, ◌++◌, append-nil, append_assoc}
+use Rattle.std.proofs.Common.{◌≡◌, ◌∙◌, ap, ℕ, ◌+◌, List, [], ◌∷◌, ◌++◌, append-nil}
 use Rattle.std.specs.List.{flat_map, range_with_len}
 use Rattle.std.proofs.lemmas.List.Concat.{flat_map-append}
 use Rattle.pmp_text.proofs.SpacedWords.{range_more}
@@ -11,10 +11,3 @@ module _ {A : Type 0} (of_one : ℕ → List A) where
   of_range_more n =
       ap (flat_map of_one) (range_more n) ∙ flat_map-append of_one (range_with_len 0 n) (n ∷ [])
       ∙ ap (λ l. flat_map of_one (range_with_len 0 n) ++ l) (append-nil (of_one n))
-
-  pub grown : (before so_far longer : List A) (n : ℕ) → longer ≡ so_far ++ of_one n
-      → so_far ≡ before ++ flat_map of_one (range_with_len 0 n)
-      → longer ≡ before ++ flat_map of_one (range_with_len 0 (n + 1))
-  grown before so_far longer n one are =
-      one ∙ ap (λ l. l ++ of_one n) are ∙ append_assoc before (flat_map of_one (range_with_len 0 n)) (of_one n)
-      ∙ ap (λ l. before ++ l) (sym (of_range_more n))

@@ -1,12 +1,15 @@
 -- One event more.
-use Rattle.std.proofs.Common.{◌≡◌, ◌∙◌, ap, sym, refl, ℕ, ◌+◌, ◌<◌, ◌≤◌, List, [], ◌∷◌, ◌++◌, fold, length, drop, get_or, slice_index}
-use Rattle.std.proofs.Common.{add-one, append_assoc, drop-cons}
+use Rattle.std.proofs.Common.{◌≡◌, ◌∙◌, ap, sym, refl, ℕ, ◌+◌, ◌<◌, ◌≤◌, List, [], ◌∷◌, fold, length, drop, get_or, slice_index}
+use Rattle.std.proofs.Common.{add-one, drop-cons}
 use Rattle.std.specs.List.{flat_map}
 use Rattle.std.proofs.lemmas.List.{drop_all}
 use Rattle.pmp_core.specs.declared.event.Event.{Event}
 use Rattle.pmp_core.specs.RegisterFile.{RegisterFile}
 use Rattle.pmp_core.specs.RegisterWrite.{step}
+use Rattle.pmp_lint.specs.declared.finding.Finding.{Finding}
 use Rattle.pmp_lint.specs.Events.{Happening, happenings_from}
+use Rattle.pmp_lint.specs.Telling.{HasTold, Telling, then_told}
+use Rattle.pmp_lint.proofs.Telling.{then_more}
 
 module _ (place : ℕ) (file : RegisterFile) (events : List Event) (lines : List ℕ) (other : Event) where
   -- the event in this place, or another past the last
@@ -27,16 +30,17 @@ module _ (place : ℕ) (file : RegisterFile) (events : List Event) (lines : List
       ≡ fold step (step file event_here) (drop (place + 1) events)
   file_on inside = ap (fold step file) (drop_here inside)
 
-  -- what is found of the event joined, and then comes what is found of the rest
-  pub found_on : {A : Type 0} (of_one : Happening → List A) (found longer : List A) → place < length events
-      → longer ≡ found ++ of_one happening_here
-      → found ++ flat_map of_one (happenings_from place file (drop place events) lines)
-      ≡ longer ++ flat_map of_one (happenings_from (place + 1) (step file event_here) (drop (place + 1) events) lines)
-  found_on of_one found longer inside added =
+  -- what is found of the event is told, and then comes what is found of the rest
+  pub told_on : (of_one : Happening → List Finding) (before after : Telling) → place < length events
+      → HasTold (of_one happening_here) before after
+      → then_told before (flat_map of_one (happenings_from place file (drop place events) lines))
+      ≡ then_told after
+      (flat_map of_one (happenings_from (place + 1) (step file event_here) (drop (place + 1) events) lines))
+  told_on of_one before after inside told =
       let rest = flat_map of_one (happenings_from (place + 1) (step file event_here) (drop (place + 1) events) lines) in
-      ap (λ all. found ++ flat_map of_one all) (happenings_on inside)
-      ∙ sym (append_assoc found (of_one happening_here) rest)
-      ∙ ap (λ l. l ++ rest) (sym added)
+      ap (λ all. then_told before (flat_map of_one all)) (happenings_on inside)
+      ∙ sym (then_more before (of_one happening_here) rest)
+      ∙ ap (λ it. then_told it rest) (sym told)
 
   pub none_left : length events ≤ place → happenings_from place file (drop place events) lines ≡ []
   none_left past = ap (λ rest. happenings_from place file rest lines) (drop_all place events past)

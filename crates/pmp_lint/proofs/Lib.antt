@@ -7,3 +7,4 @@ pub mod OneList
 pub mod OpenBetween
 pub mod OwnedBytes
 pub mod Stretches
+pub mod Telling

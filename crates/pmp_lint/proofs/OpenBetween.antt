@@ -1,62 +1,63 @@
 -- What single writes open, event by event and publication by publication.
-use Rattle.std.proofs.Common.{◌≡◌, ◌∙◌, sym, refl, ap, subst, ℕ, suc, ◌+◌, List, [], ◌∷◌, ◌++◌, add-one, append-nil, append_assoc}
+use Rattle.std.proofs.Common.{sym, refl, subst, ℕ, ◌+◌, List, [], ◌∷◌, ◌++◌, add-one, append-nil, append_assoc}
 use Rattle.pmp_core.specs.RegisterFile.{RegisterFile}
 use Rattle.pmp_text.specs.Contents.{ScriptContents}
 use Rattle.pmp_lint.specs.declared.finding.Finding.{Finding}
-use Rattle.pmp_lint.specs.Adding.{HasAdded}
 use Rattle.pmp_lint.specs.Events.{Happening, file_after}
 use Rattle.pmp_lint.specs.OpenBetween.{AreFoundBetween, AreOfEvents, AreOfPublication, AreOpenBetween}
+use Rattle.pmp_lint.specs.Telling.{HasTold, HasToldSome, Telling}
+use Rattle.pmp_lint.proofs.Telling.{then_none, told_more}
 
-module _ (before after : RegisterFile) (all : List Happening) (start : List Finding) where
-  -- those of the events so far joined, and with those of the rest they are those of all
-  pub record AreFoundSoFar (rest : List Happening) (found : List Finding) : Type 0 where
-    pub so_far : List Finding
-    pub grown : found ≡ start ++ so_far
-    pub whole : (more : List Finding) → AreOfEvents before after rest more → AreOfEvents before after all (so_far ++ more)
+module _ (before after : RegisterFile) (all : List Happening) (start : Telling) where
+  -- those of the events so far are told, and with those of the rest they are those of all
+  pub record AreToldSoFar (rest : List Happening) (now : Telling) : Type 0 where
+    pub findings : List Finding
+    pub told : HasTold findings start now
+    pub whole : (more : List Finding) → AreOfEvents before after rest more
+        → AreOfEvents before after all (findings ++ more)
 
-  pub one_event_more : (it : Happening) (rest : List Happening) (found longer : List Finding)
-      → AreFoundSoFar (it ∷ rest) found → HasAdded (AreFoundBetween before (file_after it) after it.line) found longer
-      → AreFoundSoFar rest longer
-  one_event_more it rest found longer are added = record {
-    so_far = are.so_far ++ added.added;
-    grown = added.grown ∙ ap (λ l. l ++ added.added) are.grown ∙ append_assoc start are.so_far added.added;
-    whole = λ more more_are. subst (AreOfEvents before after all) (sym (append_assoc are.so_far added.added more))
-        (are.whole (added.added ++ more) (record {
-          first = added.added;
+  pub one_event_more : (it : Happening) (rest : List Happening) (now then : Telling) → AreToldSoFar (it ∷ rest) now
+      → HasToldSome (AreFoundBetween before (file_after it) after it.line) now then → AreToldSoFar rest then
+  one_event_more it rest now then are some = record {
+    findings = are.findings ++ some.findings;
+    told = told_more are.findings some.findings start now then are.told some.has_told;
+    whole = λ more more_are. subst (AreOfEvents before after all) (sym (append_assoc are.findings some.findings more))
+        (are.whole (some.findings ++ more) (record {
+          first = some.findings;
           rest = more;
-          first_are = added.added_are;
+          first_are = some.findings_are;
           rest_are = more_are;
           joined = refl;
         }));
   }
 
-  pub all_events : (found : List Finding) → AreFoundSoFar [] found → HasAdded (AreOfEvents before after all) start found
-  all_events found are = record {
-    added = are.so_far;
-    added_are = subst (AreOfEvents before after all) (append-nil are.so_far) (are.whole [] refl);
-    grown = are.grown;
+  pub all_events : (now : Telling) → AreToldSoFar [] now → HasToldSome (AreOfEvents before after all) start now
+  all_events now are = record {
+    findings = are.findings;
+    findings_are = subst (AreOfEvents before after all) (append-nil are.findings) (are.whole [] refl);
+    has_told = are.told;
   }
 
-pub no_event : (before after : RegisterFile) (all : List Happening) (start : List Finding)
-    → AreFoundSoFar before after all start all start
+pub no_event : (before after : RegisterFile) (all : List Happening) (start : Telling)
+    → AreToldSoFar before after all start all start
 no_event before after all start = record {
-  so_far = [];
-  grown = sym (append-nil start);
+  findings = [];
+  told = then_none start;
   whole = λ more are. are;
 }
 
 -- one publication more
-pub one_publication_more : (script : ScriptContents) (n : ℕ) (start found longer : List Finding)
-    → HasAdded (AreOpenBetween script n) start found → HasAdded (AreOfPublication script n) found longer
-    → HasAdded (AreOpenBetween script (n + 1)) start longer
-one_publication_more script n start found longer are added = rw add-one (record {
-  added = are.added ++ added.added;
-  added_are = record {
-    first = are.added;
-    rest = added.added;
-    first_are = are.added_are;
-    rest_are = added.added_are;
+pub one_publication_more : (script : ScriptContents) (n : ℕ) (start now then : Telling)
+    → HasToldSome (AreOpenBetween script n) start now → HasToldSome (AreOfPublication script n) now then
+    → HasToldSome (AreOpenBetween script (n + 1)) start then
+one_publication_more script n start now then are some = rw add-one (record {
+  findings = are.findings ++ some.findings;
+  findings_are = record {
+    first = are.findings;
+    rest = some.findings;
+    first_are = are.findings_are;
+    rest_are = some.findings_are;
     joined = refl;
   };
-  grown = added.grown ∙ ap (λ l. l ++ added.added) are.grown ∙ append_assoc start are.added added.added;
+  has_told = told_more are.findings some.findings start now then are.has_told some.has_told;
 })

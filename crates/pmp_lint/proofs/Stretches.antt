@@ -1,6 +1,6 @@
 -- Ranges of bytes that a write opens, while they are found.
-use Rattle.std.proofs.Common.{◌≡◌, ◌≢◌, ◌∙◌, sym, refl, ap, ℕ, ◌+◌, ◌<◌, ◌≤◌, Bool, List, [], ◌∷◌, ◌++◌, arith, inl, inr, rules}
-use Rattle.std.proofs.Common.{append-nil, append_assoc}
+use Rattle.std.proofs.Common.{◌≡◌, ◌∙◌, sym, refl, ap, ℕ, ◌+◌, ◌≤◌, Bool, List, [], ◌∷◌, ◌++◌, arith, inl, inr, rules}
+use Rattle.std.proofs.Common.{append-nil}
 use Rattle.std.specs.Option.{option_to_list}
 use Rattle.std.proofs.lemmas.Bool.{cases_lt}
 use Rattle.std.proofs.lemmas.List.Concat.{flat_map-append}
@@ -11,8 +11,9 @@ use Rattle.pmp_map.specs.declared.mode_rights.ModeRights.{ModeRights}
 use Rattle.pmp_map.specs.RightsRuns.{HasRights}
 use Rattle.pmp_lint.specs.declared.finding.Finding.{Finding}
 use Rattle.pmp_lint.specs.declared.stretch.Stretch.{Stretch}
-use Rattle.pmp_lint.specs.Adding.{HasAdded}
 use Rattle.pmp_lint.specs.OpenBetween.{AreFoundBetween, AreStretchesFrom, IsOpened, IsStretch, of_stretches, open_between, opens}
+use Rattle.pmp_lint.specs.Telling.{HasTold, HasToldSome, Telling, then_told}
+use Rattle.pmp_lint.proofs.Telling.{then_none, told_more}
 
 -- a byte has one set of rights in a file
 once : (file : RegisterFile) (byte : ℕ) (one other : ModeRights) → HasRights file byte one → HasRights file byte other
@@ -56,19 +57,19 @@ module _ (before during after : RegisterFile) where
     abbrev finding_of : Stretch → List Finding
     finding_of stretch = option_to_list (open_between line stretch)
 
-    -- the findings of the bytes below this one
-    pub record AreFoundTo (before_these : List Finding) (first : ℕ) (after_these : List Finding) : Type 0 where
+    -- the findings of the bytes below this one are told
+    pub record AreToldTo (start : Telling) (first : ℕ) (now : Telling) : Type 0 where
       pub inside : first ≤ ADDRESS_LIMIT
       pub stretches : List Stretch
       pub stretches_are : AreStretchesFrom before during after 0 first stretches
-      pub grown : after_these ≡ before_these ++ of_stretches line stretches
+      pub told : HasTold (of_stretches line stretches) start now
 
-    pub none_found : (found : List Finding) → AreFoundTo found 0 found
-    none_found found = record {
+    pub none_told : (start : Telling) → AreToldTo start 0 start
+    none_told start = record {
       inside = omega arith;
       stretches = [];
       stretches_are = refl;
-      grown = sym (append-nil found);
+      told = then_none start;
     }
 
     found_more : (stretches : List Stretch) (stretch : Stretch) → of_stretches line (stretches ++ stretch ∷ [])
@@ -77,26 +78,25 @@ module _ (before during after : RegisterFile) where
         flat_map-append finding_of stretches (stretch ∷ [])
         ∙ ap (λ l. of_stretches line stretches ++ l) (append-nil (finding_of stretch))
 
-    pub one_more_found : (start found longer : List Finding) (first : ℕ) (stretch : Stretch)
-        → AreFoundTo start first found → stretch.first ≡ first → IsStretch before during after stretch
-        → longer ≡ found ++ finding_of stretch → AreFoundTo start (stretch.last + 1) longer
-    one_more_found start found longer first stretch so_far begins is added = record {
+    pub one_more_told : (start now then : Telling) (first : ℕ) (stretch : Stretch) → AreToldTo start first now
+        → stretch.first ≡ first → IsStretch before during after stretch → HasTold (finding_of stretch) now then
+        → AreToldTo start (stretch.last + 1) then
+    one_more_told start now then first stretch are begins is told = record {
       inside = omega (arith, is.below);
-      stretches = so_far.stretches ++ stretch ∷ [];
-      stretches_are = one_stretch_more 0 first so_far.stretches stretch so_far.stretches_are begins is;
-      grown = added ∙ ap (λ l. l ++ finding_of stretch) so_far.grown
-          ∙ append_assoc start (of_stretches line so_far.stretches) (finding_of stretch)
-          ∙ ap (λ l. start ++ l) (sym (found_more so_far.stretches stretch));
+      stretches = are.stretches ++ stretch ∷ [];
+      stretches_are = one_stretch_more 0 first are.stretches stretch are.stretches_are begins is;
+      told = told_more (of_stretches line are.stretches) (finding_of stretch) start now then are.told told
+          ∙ ap (then_told start) (sym (found_more are.stretches stretch));
     }
 
-    pub all_found : (start found : List Finding) (first : ℕ) → AreFoundTo start first found → first ≡ ADDRESS_LIMIT
-        → HasAdded (AreFoundBetween before during after line) start found
-    all_found start found first so_far whole = record {
-      added = of_stretches line so_far.stretches;
-      added_are = record {
-        stretches = so_far.stretches;
-        stretches_are = rw whole at so_far.stretches_are;
+    pub all_told : (start now : Telling) (first : ℕ) → AreToldTo start first now → first ≡ ADDRESS_LIMIT
+        → HasToldSome (AreFoundBetween before during after line) start now
+    all_told start now first are whole = record {
+      findings = of_stretches line are.stretches;
+      findings_are = record {
+        stretches = are.stretches;
+        stretches_are = rw whole at are.stretches_are;
         found = refl;
       };
-      grown = so_far.grown;
+      has_told = are.told;
     }

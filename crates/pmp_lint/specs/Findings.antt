@@ -1,6 +1,6 @@
 -- A finding, its row, and which findings are accepted.
 use Rattle.std.specs.Prelude.{ℕ, ◌+◌, ◌^◌, ◌-◌, ◌==◌, ◌&&◌, Bool, true, false, not, List, [], ◌∷◌, ◌++◌, Option, Some, None}
-use Rattle.std.specs.Prelude.{codes, count_by, decimal, drop, if◌then◌else◌, option_map, position, take}
+use Rattle.std.specs.Prelude.{codes, count_by, decimal, drop, if◌then◌else◌, option_and_then, option_map, position, take}
 use Rattle.std.specs.Fmt.{digits, format_spec, padded_integral}
 use Rattle.std.specs.List.{filter, flat_map, list_any}
 use Rattle.pmp_core.specs.declared.span.Span.{Span}
@@ -61,20 +61,18 @@ finding_row finding =
 abbrev pub is_colon : (byte : ℕ) → Bool
 is_colon byte = byte == 58
 
-abbrev pub accepted_everywhere : Option Lint → Option Accepted
-accepted_everywhere lint = option_map (λ lint. record { lint = lint; line = None }) lint
-
-abbrev pub accepted_at : Option Lint → (line : Option ℕ) → Option Accepted
-accepted_at None line = None
-accepted_at (Some lint) None = None
-accepted_at (Some lint) (Some line) = Some (record { lint = lint; line = Some line })
-
--- what a word accepts: a lint's name, or one followed by a colon and a line
-abbrev pub accepted_said : (word : List ℕ) → Option Accepted
-accepted_said word = elim (position is_colon word) [
-  | None ↦ accepted_everywhere (lint_named word)
-  | Some end ↦ accepted_at (lint_named (take end word)) (word_number (drop (end + 1) word))
+-- a name, and the line that is given after a colon
+abbrev pub name_at : (word : List ℕ) → Option (List ℕ × Option ℕ)
+name_at word = elim (position is_colon word) [
+  | None ↦ Some (word, None)
+  | Some end ↦ option_map (λ line. (take end word, Some line)) (word_number (drop (end + 1) word))
 ]
+
+-- what a word accepts: a lint's name, at every line or at one
+abbrev pub accepted_said : (word : List ℕ) → Option Accepted
+accepted_said word =
+    option_and_then (λ (name, line). option_map (λ lint. record { lint = lint; line = line }) (lint_named name))
+    (name_at word)
 
 abbrev pub is_line : (accepted : Option ℕ) → (line : ℕ) → Bool
 is_line None line = true

@@ -13,5 +13,5 @@ pub mod WhyRows
 -- A law of these definitions, proved.
 pub mod EndStateLaw
 -- The rest, used only by private contracts.
-pub mod Adding
+pub mod Telling
 pub mod Subjects

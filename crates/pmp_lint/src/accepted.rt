@@ -1,8 +1,7 @@
 //! Findings that are accepted.
 
-ghost use Rattle.std.specs.Prelude.{◌≡◌, position};
-ghost use Rattle.pmp_lint.specs.Findings.{accepted_at, accepted_everywhere, accepted_said, accepts, is_accepted};
-ghost use Rattle.pmp_lint.specs.Findings.{is_colon, is_line, is_told};
+ghost use Rattle.std.specs.Prelude.{◌≡◌, option_map, position};
+ghost use Rattle.pmp_lint.specs.Findings.{accepted_said, accepts, is_accepted, is_colon, is_line, is_told, name_at};
 
 use crate::finding::Finding;
 use crate::lint::Lint;
@@ -16,28 +15,39 @@ pub struct Accepted {
     pub line: Option<u64>,
 }
 
+/// A name, and the line at which it is meant.
+#[derive(Clone, Copy, Debug, PartialEq, Eq)]
+pub struct NameAt<'a> {
+    pub name: &'a [u8],
+    /// The line, or none for every line.
+    pub line: Option<u64>,
+}
+
 fn first_colon(word: &[u8]) -> Option<usize>
     ensures { result ≡ position is_colon word.now }
 {
     word.iter().position(|byte| *byte == b':')
 }
 
-fn accepted_everywhere(lint: Option<Lint>) -> Option<Accepted>
-    ensures { result ≡ accepted_everywhere lint }
-{
-    Some(Accepted {
-        lint: lint?,
-        line: None,
-    })
-}
-
-fn accepted_at(lint: Option<Lint>, line: Option<u64>) -> Option<Accepted>
-    ensures { result ≡ accepted_at lint line }
-{
-    Some(Accepted {
-        lint: lint?,
-        line: Some(line?),
-    })
+impl<'a> NameAt<'a> {
+    /// Returns what a word says: `NAME`, or `NAME:LINE`. There is none if the text after the first colon is no number.
+    pub fn read(word: &'a [u8]) -> Option<NameAt<'a>>
+        ensures { option_map (λ it. (it.name.now, it.line)) result ≡ name_at word.entry.now }
+    {
+        match first_colon(word) {
+            Some(end) => {
+                let line = read_word_number(&word[end + 1..])?;
+                Some(NameAt {
+                    name: &word[..end],
+                    line: Some(line),
+                })
+            }
+            None => Some(NameAt {
+                name: word,
+                line: None,
+            }),
+        }
+    }
 }
 
 impl Accepted {
@@ -45,17 +55,17 @@ impl Accepted {
     pub fn read(word: &[u8]) -> Option<Accepted>
         ensures { result ≡ accepted_said word.now }
     {
-        match first_colon(word) {
-            Some(end) => {
-                let line = read_word_number(&word[end + 1..]);
-                accepted_at(Lint::read(&word[..end]), line)
-            }
-            None => accepted_everywhere(Lint::read(word)),
-        }
+        let said = NameAt::read(word)?;
+        let lint = Lint::read(said.name)?;
+        Some(Accepted {
+            lint,
+            line: said.line,
+        })
     }
 }
 
-fn is_line(accepted: Option<u64>, line: u64) -> bool
+/// Whether a line is the accepted one, if only one is.
+pub fn is_line(accepted: Option<u64>, line: u64) -> bool
     ensures { result ≡ is_line accepted line }
 {
     accepted.is_none_or(|accepted| accepted == line)

@@ -1,13 +1,11 @@
 //! A finding, and its row.
 
-ghost use Rattle.std.specs.Prelude.{◌≡◌, ◌++◌, OnOk, Some};
-ghost use Rattle.std.specs.Option.{option_to_list};
+ghost use Rattle.std.specs.Prelude.{◌≡◌, Some};
 ghost use Rattle.pmp_lint.specs.Findings.{about_entry, about_script, bytes_text, entry_text, finding_row, letter_text};
 
 use crate::lint::Lint;
 use pmp_core::Span;
 use pmp_text::Modes;
-use std::alloc::AllocError;
 use std::fmt;
 
 /// What was found in a script.
@@ -116,14 +114,4 @@ impl fmt::Display for Finding {
             "{number},{name},{line},{entry},{bytes},{machine}{supervisor}{user}\n"
         )
     }
-}
-
-/// Adds a finding, if there is one.
-pub fn add(found: &mut Vec<Finding>, finding: Option<Finding>) -> Result<(), AllocError>
-    ensures { OnOk result (found.new.items ≡ found.old.items ++ option_to_list finding) }
-{
-    if let Some(finding) = finding {
-        found.push(finding)?;
-    }
-    Ok(())
 }

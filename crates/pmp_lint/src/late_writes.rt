@@ -1,18 +1,20 @@
 //! Writes that a frozen entry rejects.
 
-ghost use Rattle.std.specs.Prelude.{◌≡◌, ◌++◌, ◌<◌, OnOk, fold, length};
+ghost use Rattle.std.specs.Prelude.{◌≡◌, ◌<◌, OnErr, OnOk, fold, length};
+ghost use Rattle.std.specs.Io.{StartsWith};
 ghost use Rattle.std.specs.List.{flat_map};
 ghost use Rattle.pmp_core.specs.RegisterWrite.{step};
 ghost use Rattle.pmp_lint.specs.Events.{happenings_from};
 ghost use Rattle.pmp_lint.specs.LateWrites.{is_late, late_write, late_writes, late_writes_of};
+ghost use Rattle.pmp_lint.specs.Telling.{HasTold, telling};
 
 use crate::end_state::found_if;
-use crate::finding::{Finding, add};
+use crate::finding::Finding;
 use crate::lint::Lint;
+use crate::told::Told;
 use crate::trail::line_at;
 use pmp_core::{Event, RegFile};
-use pmp_text::Script;
-use std::alloc::AllocError;
+use pmp_text::{NoMemory, Script, Sink};
 
 /// An event, with the register file that it meets, and its line number.
 #[derive(Clone, Copy)]
@@ -49,31 +51,35 @@ impl<'a> Happening<'a> {
         found_if(self.is_late(entry), finding)
     }
 
-    /// Adds a finding for each entry that rejects the write.
-    fn add_late_writes(&self, found: &mut Vec<Finding>) -> Result<(), AllocError>
-        ensures { OnOk result (found.new.items ≡ found.old.items ++ late_writes_of (record {
+    /// Tells a finding for each entry that rejects the write.
+    fn add_late_writes<S: Sink>(&self, out: &mut S, told: &mut Told<'_>) -> Result<(), NoMemory>
+        ensures ok { OnOk result (HasTold (late_writes_of (record {
           before = self.now.before.now;
           event = self.now.event;
           line = self.now.line;
-        })) }
+        })) (telling (S.text out.old) told.old) (telling (S.text out.new) told.new)) }
+        ensures err { OnErr result (StartsWith (S.text out.new) (S.text out.old)) }
     {
         for entry in 0..self.before.entries() {
-            add(found, self.late_write(entry))?;
+            told.add(out, self.late_write(entry))?;
         }
         Ok(())
     }
 }
 
-/// Adds the findings for these events, which are in these lines, and executes them.
-fn add_of_publication(
-    found: &mut Vec<Finding>,
+/// Tells the findings for these events, which are in these lines, and executes them.
+fn add_of_publication<S: Sink>(
+    out: &mut S,
+    told: &mut Told<'_>,
     file: &mut RegFile,
     events: &[Event],
     lines: &[u64],
-) -> Result<(), AllocError>
-    ensures found { OnOk result (found.new.items ≡ found.old.items
-        ++ flat_map late_writes_of (happenings_from 0 file.old events.now lines.now)) }
+) -> Result<(), NoMemory>
+    ensures ok { OnOk result (HasTold
+        (flat_map late_writes_of (happenings_from 0 file.old events.now lines.now))
+        (telling (S.text out.old) told.old) (telling (S.text out.new) told.new)) }
     ensures file { OnOk result (file.new ≡ fold step file.old events.now) }
+    ensures err { OnErr result (StartsWith (S.text out.new) (S.text out.old)) }
 {
     for (place, event) in events.iter().enumerate() {
         let before = *file;
@@ -82,20 +88,31 @@ fn add_of_publication(
             event: *event,
             line: line_at(lines, place),
         };
-        happening.add_late_writes(found)?;
+        happening.add_late_writes(out, told)?;
         file.step(*event);
     }
     Ok(())
 }
 
-/// Adds a finding for each write of the script, and each entry that rejects it because it is frozen.
-pub fn add_late_writes(found: &mut Vec<Finding>, script: &Script<'_>) -> Result<(), AllocError>
-    ensures { OnOk result (found.new.items ≡ found.old.items
-        ++ late_writes script.now (length script.now.batches)) }
+/// Tells a finding for each write of the script, and each entry that rejects it because it is frozen.
+pub fn add_late_writes<S: Sink>(
+    out: &mut S,
+    told: &mut Told<'_>,
+    script: &Script<'_>,
+) -> Result<(), NoMemory>
+    ensures ok { OnOk result (HasTold (late_writes script.now (length script.now.batches))
+        (telling (S.text out.old) told.old) (telling (S.text out.new) told.new)) }
+    ensures err { OnErr result (StartsWith (S.text out.new) (S.text out.old)) }
 {
     let mut file = script.start();
     for index in 0..script.batches() {
-        add_of_publication(found, &mut file, script.batch(index), script.lines(index))?;
+        add_of_publication(
+            out,
+            told,
+            &mut file,
+            script.batch(index),
+            script.lines(index),
+        )?;
     }
     Ok(())
 }

@@ -17,14 +17,15 @@ mod open_between;
 mod report;
 mod stretch;
 mod subject;
+mod told;
 mod trail;
 mod write_and_execute;
 
-pub use accepted::Accepted;
+pub use accepted::{Accepted, NameAt, is_line};
 pub use answer_run::{AnswerRun, append_history};
 pub use because::{Because, why};
 pub use because_row::append_why;
 pub use decider::{Decider, RuleBits};
 pub use finding::Finding;
 pub use lint::Lint;
-pub use report::{append_findings, append_lint, find};
+pub use report::append_lint;

@@ -1,21 +1,21 @@
 //! Bytes that single writes open to S and U for a while.
 
-ghost use Rattle.std.specs.Prelude.{◌≡◌, ◌++◌, List, OnOk, fold, length};
+ghost use Rattle.std.specs.Prelude.{◌≡◌, OnErr, OnOk, fold, length};
+ghost use Rattle.std.specs.Io.{StartsWith};
 ghost use Rattle.pmp_core.specs.declared.access.TheConstants.{ADDRESS_LIMIT};
 ghost use Rattle.pmp_core.specs.RegisterWrite.{step};
-ghost use Rattle.pmp_lint.specs.declared.finding.Finding.{Finding};
 ghost use Rattle.pmp_lint.specs.Events.{happenings_from};
-ghost use Rattle.pmp_lint.specs.Adding.{HasAdded};
 ghost use Rattle.pmp_lint.specs.OpenBetween.{AreFoundBetween, AreOfEvents, AreOpenBetween, open_between};
+ghost use Rattle.pmp_lint.specs.Telling.{HasToldSome, telling};
 
 use crate::end_state::found_if;
-use crate::finding::{Finding, add};
+use crate::finding::Finding;
 use crate::lint::Lint;
 use crate::stretch::{Between, Stretch};
+use crate::told::Told;
 use crate::trail::line_at;
 use pmp_core::{ADDRESS_LIMIT, Event, RegFile, Span};
-use pmp_text::{Modes, Script};
-use std::alloc::AllocError;
+use pmp_text::{Modes, NoMemory, Script, Sink};
 
 impl Stretch {
     /// Returns a finding, if its bytes are opened by the write in this line.
@@ -41,31 +41,41 @@ impl Stretch {
 }
 
 impl<'a> Between<'a> {
-    /// Adds a finding for each range that the write in this line opens.
-    fn add_opened(&self, found: &mut Vec<Finding>, line: u64) -> Result<(), AllocError>
-        ensures { OnOk result (HasAdded (AreFoundBetween self.now.before.now self.now.during.now self.now.after.now line)
-            found.old.items found.new.items) }
+    /// Tells a finding for each range that the write in this line opens.
+    fn add_opened<S: Sink>(
+        &self,
+        out: &mut S,
+        told: &mut Told<'_>,
+        line: u64,
+    ) -> Result<(), NoMemory>
+        ensures ok { OnOk result (HasToldSome
+            (AreFoundBetween self.now.before.now self.now.during.now self.now.after.now line)
+            (telling (S.text out.old) told.old) (telling (S.text out.new) told.new)) }
+        ensures err { OnErr result (StartsWith (S.text out.new) (S.text out.old)) }
     {
         let mut first = 0;
         while first < ADDRESS_LIMIT {
             let stretch = self.stretch_from(first);
-            add(found, stretch.open_between(line))?;
+            told.add(out, stretch.open_between(line))?;
             first = stretch.last + 1;
         }
         Ok(())
     }
 }
 
-/// Adds the findings for these events, which are a publication and are in these lines, and executes them.
-fn add_of_publication(
-    found: &mut Vec<Finding>,
+/// Tells the findings for these events, which are a publication and are in these lines, and executes them.
+fn add_of_publication<S: Sink>(
+    out: &mut S,
+    told: &mut Told<'_>,
     file: &mut RegFile,
     events: &[Event],
     lines: &[u64],
-) -> Result<(), AllocError>
-    ensures found { OnOk result (HasAdded (AreOfEvents file.old (fold step file.old events.now)
-        (happenings_from 0 file.old events.now lines.now)) found.old.items found.new.items) }
+) -> Result<(), NoMemory>
+    ensures ok { OnOk result (HasToldSome (AreOfEvents file.old (fold step file.old events.now)
+        (happenings_from 0 file.old events.now lines.now))
+        (telling (S.text out.old) told.old) (telling (S.text out.new) told.new)) }
     ensures file { OnOk result (file.new ≡ fold step file.old events.now) }
+    ensures err { OnErr result (StartsWith (S.text out.new) (S.text out.old)) }
 {
     let before = *file;
     let mut after = *file;
@@ -77,20 +87,31 @@ fn add_of_publication(
             during: &file.registers(),
             after: &after.registers(),
         };
-        between.add_opened(found, line_at(lines, place))?;
+        between.add_opened(out, told, line_at(lines, place))?;
     }
     Ok(())
 }
 
-/// Adds a finding for each write of the script, and each range of bytes that it opens to S and U until its publication
+/// Tells a finding for each write of the script, and each range of bytes that it opens to S and U until its publication
 /// closes them again.
-pub fn add_open_between(found: &mut Vec<Finding>, script: &Script<'_>) -> Result<(), AllocError>
-    ensures { OnOk result (HasAdded (AreOpenBetween script.now (length script.now.batches))
-        found.old.items found.new.items) }
+pub fn add_open_between<S: Sink>(
+    out: &mut S,
+    told: &mut Told<'_>,
+    script: &Script<'_>,
+) -> Result<(), NoMemory>
+    ensures ok { OnOk result (HasToldSome (AreOpenBetween script.now (length script.now.batches))
+        (telling (S.text out.old) told.old) (telling (S.text out.new) told.new)) }
+    ensures err { OnErr result (StartsWith (S.text out.new) (S.text out.old)) }
 {
     let mut file = script.start();
     for index in 0..script.batches() {
-        add_of_publication(found, &mut file, script.batch(index), script.lines(index))?;
+        add_of_publication(
+            out,
+            told,
+            &mut file,
+            script.batch(index),
+            script.lines(index),
+        )?;
     }
     Ok(())
 }

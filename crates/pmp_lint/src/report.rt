@@ -1,21 +1,20 @@
 //! All findings of a script, and their text.
 
-ghost use Rattle.std.specs.Prelude.{◌≡◌, ◌++◌, ◌<◌, IfErr, IfOk, OnErr, OnOk, length};
+ghost use Rattle.std.specs.Prelude.{◌≡◌, ◌<◌, IfErr, IfOk, OnErr, OnOk, length};
 ghost use Rattle.std.specs.Io.{StartsWith};
 ghost use Rattle.pmp_map.specs.Runs.{HasOwnersBelow};
 ghost use Rattle.pmp_lint.specs.EndState.{end_of, never_decides, of_entries, open_before_locked};
-ghost use Rattle.pmp_lint.specs.Findings.{told_count, told_rows};
 ghost use Rattle.pmp_lint.specs.Report.{AreFindings, LintRefuses, LintSays, of_locks, of_runs};
+ghost use Rattle.pmp_lint.specs.Telling.{HasTold, HasToldSome, so_far, telling};
 
 use crate::accepted::Accepted;
 use crate::end_state::Ended;
-use crate::finding::{Finding, add};
 use crate::late_writes::add_late_writes;
 use crate::open_between::add_open_between;
+use crate::told::Told;
 use pmp_core::RegFile;
 use pmp_map::{Run, RunMap};
-use pmp_text::{EventLog, NoMemory, Script, ScriptFault, Sink, append_line, read_script};
-use std::alloc::{AllocError, Global};
+use pmp_text::{EventLog, NoMemory, Script, ScriptFault, Sink, read_script};
 
 /// Returns the register file after all publications.
 fn end_of(script: &Script<'_>) -> RegFile
@@ -27,46 +26,70 @@ fn end_of(script: &Script<'_>) -> RegFile
 }
 
 impl<'a> Ended<'a> {
-    fn add_open_before(&self, found: &mut Vec<Finding>) -> Result<(), AllocError>
-        ensures { OnOk result (found.new.items ≡ found.old.items
-            ++ of_entries self.now.file.now (open_before_locked self.now.script.now)) }
+    fn add_open_before<S: Sink>(&self, out: &mut S, told: &mut Told<'_>) -> Result<(), NoMemory>
+        ensures ok { OnOk result (HasTold
+            (of_entries self.now.file.now (open_before_locked self.now.script.now))
+            (telling (S.text out.old) told.old) (telling (S.text out.new) told.new)) }
+        ensures err { OnErr result (StartsWith (S.text out.new) (S.text out.old)) }
     {
         for entry in 0..self.file.entries() {
-            add(found, self.open_before_locked(entry))?;
+            told.add(out, self.open_before_locked(entry))?;
         }
         Ok(())
     }
 
-    fn add_idle(&self, found: &mut Vec<Finding>, runs: &[Run]) -> Result<(), AllocError>
-        ensures { OnOk result (found.new.items ≡ found.old.items
-            ++ of_entries self.now.file.now (never_decides self.now.script.now runs.now)) }
+    fn add_idle<S: Sink>(
+        &self,
+        out: &mut S,
+        told: &mut Told<'_>,
+        runs: &[Run],
+    ) -> Result<(), NoMemory>
+        ensures ok { OnOk result (HasTold
+            (of_entries self.now.file.now (never_decides self.now.script.now runs.now))
+            (telling (S.text out.old) told.old) (telling (S.text out.new) told.new)) }
+        ensures err { OnErr result (StartsWith (S.text out.new) (S.text out.old)) }
     {
         for entry in 0..self.file.entries() {
-            add(found, self.never_decides(runs, entry))?;
+            told.add(out, self.never_decides(runs, entry))?;
         }
         Ok(())
     }
 
-    fn add_of_locks(&self, found: &mut Vec<Finding>) -> Result<(), AllocError>
-        ensures { OnOk result (found.new.items ≡ found.old.items ++ of_locks self.now.script.now) }
+    fn add_of_locks<S: Sink>(&self, out: &mut S, told: &mut Told<'_>) -> Result<(), NoMemory>
+        ensures ok { OnOk result (HasTold (of_locks self.now.script.now)
+            (telling (S.text out.old) told.old) (telling (S.text out.new) told.new)) }
+        ensures err { OnErr result (StartsWith (S.text out.new) (S.text out.old)) }
     {
-        add(found, self.rlb_left_on())?;
-        add(found, self.mmwp_off())?;
-        self.add_open_before(found)
+        told.add(out, self.rlb_left_on())?;
+        told.add(out, self.mmwp_off())?;
+        self.add_open_before(out, told)
     }
 
-    fn add_of_runs(&self, found: &mut Vec<Finding>, runs: &[Run]) -> Result<(), AllocError>
+    fn add_of_runs<S: Sink>(
+        &self,
+        out: &mut S,
+        told: &mut Told<'_>,
+        runs: &[Run],
+    ) -> Result<(), NoMemory>
         requires { HasOwnersBelow (length self.now.file.now.entries) runs.now }
-        ensures { OnOk result (found.new.items ≡ found.old.items ++ of_runs self.now.script.now runs.now) }
+        ensures ok { OnOk result (HasTold (of_runs self.now.script.now runs.now)
+            (telling (S.text out.old) told.old) (telling (S.text out.new) told.new)) }
+        ensures err { OnErr result (StartsWith (S.text out.new) (S.text out.old)) }
     {
-        self.add_idle(found, runs)?;
-        self.add_write_and_execute(found, runs)
+        self.add_idle(out, told, runs)?;
+        self.add_write_and_execute(out, told, runs)
     }
 }
 
-/// Returns the findings in a script, lint by lint in the order of their numbers.
-pub fn find(alloc: Global, script: &Script<'_>) -> Result<Vec<Finding>, AllocError>
-    ensures { IfOk result (λ found. AreFindings script.now found.items) }
+/// Appends the rows of a script's findings that aren't accepted, or a part of them, and returns the number of rows.
+fn write_told<S: Sink>(
+    out: &mut S,
+    script: &Script<'_>,
+    accepted: &[Accepted],
+) -> Result<usize, NoMemory>
+    ensures ok { IfOk result (λ told. HasToldSome (AreFindings script.now)
+        (so_far accepted.now (S.text out.old) 0) (so_far accepted.now (S.text out.new) told)) }
+    ensures err { OnErr result (StartsWith (S.text out.new) (S.text out.old)) }
 {
     let file = end_of(script);
     let ended = Ended {
@@ -74,64 +97,24 @@ pub fn find(alloc: Global, script: &Script<'_>) -> Result<Vec<Finding>, AllocErr
         file: &file,
     };
     let map = RunMap::build(&file);
-    let mut found = Vec::new(alloc);
-    ended.add_of_locks(&mut found)?;
-    ended.add_of_runs(&mut found, map.runs())?;
-    add_open_between(&mut found, script)?;
-    add_late_writes(&mut found, script)?;
-    Ok(found)
+    let mut told = Told { accepted, count: 0 };
+    ended.add_of_locks(out, &mut told)?;
+    ended.add_of_runs(out, &mut told, map.runs())?;
+    add_open_between(out, &mut told, script)?;
+    add_late_writes(out, &mut told, script)?;
+    Ok(told.count)
 }
 
-/// Appends the rows of the findings that aren't accepted, or a part of them, and returns the number of these findings.
-fn write_told<S: Sink>(
-    out: &mut S,
-    findings: &[Finding],
-    accepted: &[Accepted],
-) -> Result<usize, NoMemory>
-    ensures rows { OnOk result (S.text out.new ≡ S.text out.old ++ told_rows accepted.now findings.now) }
-    ensures counted { IfOk result (λ told. told ≡ told_count accepted.now findings.now) }
-    ensures err { OnErr result (StartsWith (S.text out.new) (S.text out.old)) }
-{
-    let mut told = 0;
-    for finding in findings {
-        if finding.is_told(accepted) {
-            append_line(out, *finding)?;
-            told += 1;
-        }
-    }
-    Ok(told)
-}
-
-/// Appends a row for each of these findings that isn't accepted, `NUMBER,NAME,LINE,ENTRY,FIRST,LAST,MODES` and LF, and
-/// returns the number of rows.
+/// Appends a row for each finding in a script's text that isn't accepted, lint by lint in the order of their numbers,
+/// `NUMBER,NAME,LINE,ENTRY,FIRST,LAST,MODES` and LF, and returns the number of rows.
 ///
 /// NUMBER and NAME are the lint's. LINE is that of the write that it is about, or 0. ENTRY is an entry's number, FIRST
 /// and LAST are the first and the last byte in fourteen hexadecimal digits, and MODES are letters of `M`, `S` and `U`,
 /// each of them empty if the finding is about none.
-pub fn append_findings<S: Sink>(
-    out: &mut S,
-    findings: &[Finding],
-    accepted: &[Accepted],
-) -> Result<usize, NoMemory>
-    ensures rows { OnOk result (S.text out.new ≡ S.text out.old ++ told_rows accepted.now findings.now) }
-    ensures counted { IfOk result (λ told. told ≡ told_count accepted.now findings.now) }
-    ensures err { OnErr result (S.text out.new ≡ S.text out.old) }
-{
-    let before = out.position();
-    let told = write_told(out, findings, accepted);
-    if told.is_err() {
-        out.go_back(before);
-    }
-    told
-}
-
-/// Appends these rows for a script's text: its findings, lint by lint in the order of their numbers, except accepted
-/// ones. Returns the number of rows.
 ///
 /// The log keeps the script's events, and forgets what it had. If it is refused, by the script's own fault or `Memory`,
 /// nothing is appended.
 pub fn append_lint<L: EventLog, S: Sink>(
-    alloc: Global,
     log: &mut L,
     script: &[u8],
     accepted: &[Accepted],
@@ -142,6 +125,10 @@ pub fn append_lint<L: EventLog, S: Sink>(
     ensures kept { OnErr result (S.text out.new ≡ S.text out.old) }
 {
     let script = read_script(log, script)?;
-    let findings = find(alloc, &script)?;
-    Ok(append_findings(out, &findings, accepted)?)
+    let before = out.position();
+    let told = write_told(out, &script, accepted);
+    if told.is_err() {
+        out.go_back(before);
+    }
+    Ok(told?)
 }

@@ -1,19 +1,21 @@
 //! Bytes that a mode may both write and execute.
 
-ghost use Rattle.std.specs.Prelude.{◌≡◌, ◌++◌, ◌<◌, IfSome, OnOk, length};
+ghost use Rattle.std.specs.Prelude.{◌≡◌, ◌<◌, IfSome, OnErr, OnOk, length};
+ghost use Rattle.std.specs.Io.{StartsWith};
 ghost use Rattle.pmp_core.specs.Rights.{Rights, perms_of};
 ghost use Rattle.pmp_map.specs.Runs.{HasOwnersBelow};
+ghost use Rattle.pmp_lint.specs.Telling.{HasTold, telling};
 ghost use Rattle.pmp_lint.specs.WriteAndExecute.{owner_line, write_and_execute, writes_and_executes, writing_modes};
 ghost use Rattle.pmp_lint.specs.WriteAndExecute.{written_and_executed};
 
 use crate::end_state::{Ended, found_if};
-use crate::finding::{Finding, add};
+use crate::finding::Finding;
 use crate::lint::Lint;
 use crate::subject::Subject;
+use crate::told::Told;
 use pmp_core::{Kind, Perms, Registers, Span};
 use pmp_map::{ModeRights, Run};
-use pmp_text::Modes;
-use std::alloc::AllocError;
+use pmp_text::{Modes, NoMemory, Sink};
 
 fn writes_and_executes(perms: Perms) -> bool
     ensures { (rights : Rights) → perms ≡ perms_of rights → result ≡ writes_and_executes rights }
@@ -64,18 +66,20 @@ impl<'a> Ended<'a> {
         found_if(modes.machine || modes.user, finding)
     }
 
-    /// Adds a finding for each of these runs, which are the file's, that a mode may both write and execute.
-    pub fn add_write_and_execute(
+    /// Tells a finding for each of these runs, which are the file's, that a mode may both write and execute.
+    pub fn add_write_and_execute<S: Sink>(
         &self,
-        found: &mut Vec<Finding>,
+        out: &mut S,
+        told: &mut Told<'_>,
         runs: &[Run],
-    ) -> Result<(), AllocError>
+    ) -> Result<(), NoMemory>
         requires { HasOwnersBelow (length self.now.file.now.entries) runs.now }
-        ensures { OnOk result (found.new.items ≡ found.old.items
-            ++ written_and_executed self.now.script.now runs.now) }
+        ensures ok { OnOk result (HasTold (written_and_executed self.now.script.now runs.now)
+            (telling (S.text out.old) told.old) (telling (S.text out.new) told.new)) }
+        ensures err { OnErr result (StartsWith (S.text out.new) (S.text out.old)) }
     {
         for run in runs {
-            add(found, self.write_and_execute(run))?;
+            told.add(out, self.write_and_execute(run))?;
         }
         Ok(())
     }

@@ -41,13 +41,14 @@ task_asked new name (request.Audit audit) = refl
 task_asked new name (request.LongAudit audit) = refl
 task_asked new name (request.Policy policy) = refl
 task_asked new name (request.Show view when) = refl
-task_asked new name request.Writes = refl
+task_asked new name (request.Writes words) = refl
 task_asked new name (request.Lint accepted) = refl
 task_asked new name (request.Diff diff) = refl
 task_asked new name (request.Harts has_locks) = refl
 task_asked new name (request.Import import) = refl
 task_asked new name (request.Plan plan) = refl
 task_asked new name request.PlanOf = refl
+task_asked new name request.PolicyFrom = refl
 
 -- so is a command of it
 pub asked_of_hart : (command : Command) (harts : Harts) (name script new : Text) (one : Request)

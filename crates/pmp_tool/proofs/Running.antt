@@ -48,9 +48,11 @@ use Rattle.pmp_tool.specs.CommandAnswers.{CommandFails, no_script, of_script}
 use Rattle.pmp_tool.specs.HartComparisons.{CantCompare, FolderFailsBy, cant_compare, comparison, no_first, no_path}
 use Rattle.pmp_tool.specs.HartImports.{new_folder}
 use Rattle.pmp_tool.specs.Harts.{HartsFail, on_hart}
-use Rattle.pmp_tool.specs.Harts.{no_output as no_rows, no_room as no_rows_kept}
+use Rattle.pmp_tool.specs.Harts.{no_output as no_harts_written, no_room as no_rows_kept}
+use Rattle.pmp_tool.specs.declared.row_format.AskedFormat.{AskedFormat}
 use Rattle.pmp_tool.specs.NamedAnswers.{OneFails, apart, at_once, unkept, unwritten}
-use Rattle.pmp_tool.specs.Runs.{Answers, Does, DoesNot, DoesNotAt, Fails, TextFails, UndoneBy, UndoneFor, bad_names}
+use Rattle.pmp_tool.specs.Runs.{Answers, Does, DoesNoRows, DoesNot, DoesNotAt, DoesNotIn, Fails, TextFails, UndoneBy}
+use Rattle.pmp_tool.specs.Runs.{UndoneFor, bad_names, formed_in_part, in_format, no_format, no_rows, no_rows_apart, unformed}
 use Rattle.pmp_tool.specs.Runs.{does, does_not, no_harts, no_memory, no_names, no_output, no_room, no_room_for_names}
 use Rattle.pmp_tool.specs.Runs.{no_text, of_harts, of_one, once, refused_word, refused_words, tells, twice, undone}
 
@@ -171,7 +173,7 @@ module _ (before after : Option (List ℕ)) (paths : Paths) where
       inr (input_keeps fails (λ policy fails. policy_keeps fails two))
   request_keeps script (request.Show view when) failure fails two =
       inr (moment_keeps fails (λ fails. declines_keep fails two))
-  request_keeps script request.Writes failure fails two = inr (declines_keep fails two)
+  request_keeps script (request.Writes accepted) failure fails two = inr (declines_keep fails two)
   request_keeps script (request.Lint accepted) failure fails two = inr (declines_keep fails two)
   request_keeps script (request.Diff diff) failure fails two =
       inr (moment_keeps fails (λ fails. input_keeps fails (λ new fails.
@@ -181,6 +183,7 @@ module _ (before after : Option (List ℕ)) (paths : Paths) where
   request_keeps script (request.Plan plan) failure fails two = inr (start_keeps fails two)
   request_keeps script request.PlanOf failure fails two =
       inr (plan_of_keeps fails.fails (sym (ap failure_status fails.is) ∙ two))
+  request_keeps script request.PolicyFrom failure fails two = inr (declines_keep fails two)
 
   command_keeps : (command : Command) (failure : Failure) → CommandFails paths command before after failure
       → failure_status failure ≡ 2 → IsLong command.request ⊎ Keeps before after
@@ -193,7 +196,7 @@ harts_keep : {paths : Paths} {command : Command} {naming : Option Naming} {harts
     → Keeps before after
 harts_keep (on_hart answers hart rest one failure part are is fails keeps) two = keeps
 harts_keep (no_rows_kept keeps) two = keeps
-harts_keep (no_rows answers are front) two = absurd cc
+harts_keep (no_harts_written answers are front) two = absurd cc
 
 unlike_keep : {paths : Paths} {command : Command} {naming : Option Naming} {harts : Harts} {before after : Option (List ℕ)}
     {has_locks : Bool} {failure : Failure} → CantCompare paths command naming harts before after has_locks failure
@@ -303,12 +306,28 @@ does_not_keep words fine (undone command naming failure asks fails) two =
     long_or_kept words asks.names command _ _ (fine, asks.asks)
     (for_keeps _ command _ _ naming failure (new_folder command.request) fails two)
 
+rows_kept : (words : List Text) {paths : Paths} {before after : Option (List ℕ)}
+    {failure : Failure} → fault_of pmp_app words ≡ []
+    → DoesNoRows (subcommand_of pmp_app words) paths before after failure
+    → failure_status failure ≡ 2 → AsksForPieces words ⊎ Keeps before after
+rows_kept words fine (twice fault both keeps) two = inr keeps
+rows_kept words fine (once path failure at fails) two = does_not_keep words fine fails two
+
+form_kept : (words : List Text) {paths : Paths} {before after : Option (List ℕ)} {format : Option AskedFormat}
+    {failure : Failure} → fault_of pmp_app words ≡ []
+    → DoesNotIn (subcommand_of pmp_app words) paths before after format failure
+    → failure_status failure ≡ 2 → AsksForPieces words ⊎ Keeps before after
+form_kept words fine (no_rows failure fails) two = rows_kept words fine fails two
+form_kept words fine (no_rows_apart format alone part fails keeps) two = inr keeps
+form_kept words fine (unformed format keeps) two = inr keeps
+form_kept words fine (formed_in_part format rows made outcome done front) two = absurd cc
+
 none_kept : (words : List Text) {paths : Paths} {before after : Option (List ℕ)}
     {failure : Failure} → fault_of pmp_app words ≡ []
     → DoesNot (subcommand_of pmp_app words) paths before after failure
     → failure_status failure ≡ 2 → AsksForPieces words ⊎ Keeps before after
-none_kept words fine (twice fault both keeps) two = inr keeps
-none_kept words fine (once path failure at fails) two = does_not_keep words fine fails two
+none_kept words fine (no_format fault asked keeps) two = inr keeps
+none_kept words fine (in_format format failure asked fails) two = form_kept words fine fails two
 
 pub keeps_at_two : {words : List Text} {paths : Paths} {before after : Option (List ℕ)} {failure : Failure}
     → Fails words paths before after failure → failure_status failure ≡ 2

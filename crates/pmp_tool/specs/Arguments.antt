@@ -33,7 +33,9 @@ rule_in argument.Script = word_rule (codes "script")
 rule_in argument.Old = word_rule (codes "script")
 rule_in argument.New = word_rule (codes "new")
 rule_in argument.Trace = word_rule (codes "trace")
-rule_in argument.Policy = word_rule (codes "policy")
+-- a policy is judged, or with `--from` one is written
+rule_in argument.Policy = record (new_rule (codes "policy")) { value_names = 1 }
+rule_in argument.Draft = record (flag_rule (codes "draft")) { long = Some (codes "from") }
 rule_in argument.Mode = word_rule (codes "mode")
 rule_in argument.Kind = word_rule (codes "kind")
 rule_in argument.Start = word_rule (codes "start")
@@ -51,6 +53,9 @@ rule_in argument.Expect = option_rule (codes "expect")
 rule_in argument.Only = option_rule (codes "only")
 rule_in argument.Locks = flag_rule (codes "locks")
 rule_in argument.Accept = option_rule (codes "accept")
+rule_in argument.AcceptReason = option_rule (codes "accept")
+-- `--format`, which has another place than the form of a log
+rule_in argument.AsFormat = record (option_rule (codes "as-format")) { long = Some (codes "format") }
 rule_in argument.FirstRow = option_rule (codes "first-row")
 rule_in argument.Checkers = count_rule (codes "checkers") CHECKERS
 rule_in argument.Jobs = count_rule (codes "jobs") JOBS
@@ -108,23 +113,23 @@ arguments_of Check =
     ∷ argument.After ∷ argument.Expect ∷ argument.Names ∷ []
 arguments_of Why =
     argument.Script ∷ argument.Explain ∷ argument.Mode ∷ argument.Kind ∷ argument.Start ∷ argument.Length
-    ∷ argument.After ∷ argument.Names ∷ []
+    ∷ argument.After ∷ argument.Names ∷ argument.AsFormat ∷ []
 arguments_of Audit =
     argument.Script ∷ argument.Explain ∷ argument.Trace ∷ argument.Checkers ∷ argument.Long ∷ argument.Jobs
     ∷ argument.FirstRow ∷ argument.Names ∷ []
 arguments_of Policy =
     argument.Script ∷ argument.Explain ∷ argument.Policy ∷ argument.EachWrite ∷ argument.Strict
-    ∷ argument.Names ∷ []
+    ∷ argument.Draft ∷ argument.Names ∷ argument.AsFormat ∷ []
 arguments_of Dump = argument.Script ∷ argument.Explain ∷ argument.After ∷ argument.AsScript ∷ []
-arguments_of Map = argument.Script ∷ argument.Explain ∷ argument.After ∷ argument.Names ∷ []
+arguments_of Map = argument.Script ∷ argument.Explain ∷ argument.After ∷ argument.Names ∷ argument.AsFormat ∷ []
 arguments_of Picture = argument.Script ∷ argument.Explain ∷ argument.After ∷ argument.Names ∷ []
-arguments_of Entries = argument.Script ∷ argument.Explain ∷ argument.After ∷ argument.Names ∷ []
-arguments_of Writes = argument.Script ∷ argument.Explain ∷ []
-arguments_of Lint = argument.Script ∷ argument.Explain ∷ argument.Accept ∷ argument.Names ∷ []
+arguments_of Entries = argument.Script ∷ argument.Explain ∷ argument.After ∷ argument.Names ∷ argument.AsFormat ∷ []
+arguments_of Writes = argument.Script ∷ argument.Explain ∷ argument.AcceptReason ∷ argument.AsFormat ∷ []
+arguments_of Lint = argument.Script ∷ argument.Explain ∷ argument.Accept ∷ argument.Names ∷ argument.AsFormat ∷ []
 arguments_of Diff =
     argument.Old ∷ argument.Explain ∷ argument.New ∷ argument.OldAfter ∷ argument.NewAfter ∷ argument.Only
-    ∷ argument.Locks ∷ argument.Names ∷ []
-arguments_of Harts = argument.Harts ∷ argument.Explain ∷ argument.Locks ∷ argument.Names ∷ []
+    ∷ argument.Locks ∷ argument.Names ∷ argument.AsFormat ∷ []
+arguments_of Harts = argument.Harts ∷ argument.Explain ∷ argument.Locks ∷ argument.Names ∷ argument.AsFormat ∷ []
 arguments_of Import =
     argument.Format ∷ argument.Explain ∷ argument.Log ∷ argument.Hart ∷ argument.Xlen ∷ argument.Entries ∷ argument.Grain
     ∷ argument.AddressBits ∷ argument.Smepmp ∷ argument.Bursts ∷ argument.Folder ∷ []

@@ -16,6 +16,8 @@ use Rattle.pmp_import.specs.Formats.{format_named}
 use Rattle.pmp_lint.specs.Findings.{accepted_said}
 use Rattle.pmp_names.specs.AddressNames.{Named}
 use Rattle.pmp_names.specs.NamedAddresses.{address_said}
+use Rattle.pmp_audit.specs.AcceptedReasons.{accepted_reason_said}
+use Rattle.pmp_audit.specs.declared.accepted_reason.AcceptedReason.{AcceptedReason}
 use Rattle.pmp_lint.specs.declared.accepted.Accepted.{Accepted}
 use Rattle.pmp_text.specs.AccessWords.{kind_named, mode_named}
 use Rattle.pmp_text.specs.declared.moments.When.{When}
@@ -46,7 +48,8 @@ use Rattle.pmp_tool.specs.declared.fault_line.FaultLine.{FaultLine}
 use Rattle.pmp_tool.specs.declared.word.Xlen.{Xlen}
 use Rattle.pmp_tool.specs.Arguments.{command_word, commands}
 use Rattle.pmp_tool.specs.HartWords.{aim_in, hart_in, says_aim, says_hart}
-use Rattle.pmp_tool.specs.Words.{and_then, asked_in, bad_word, count_in, expected_named, is_bare_word, is_set, is_stdin, is_used}
+use Rattle.pmp_tool.specs.Words.{and_then, asked_in, bad_word, count_in, expected_named}
+use Rattle.pmp_tool.specs.Words.{is_bare_word, is_set, is_stdin, is_used}
 use Rattle.pmp_tool.specs.Words.{needed_in, of_no_word, of_word, only_named, smepmp_named, word_in, xlen_named}
 
 -- an access, in plain values
@@ -64,13 +67,14 @@ pub data Task : Type 0 where
   LongAudit : (trace : Text) (jobs : Option ℕ) (first : ℕ) → Task
   Policy : (policy : Text) → Pace → (is_strict : Bool) → Task
   Show : View → (after : Option When) → Task
-  Writes : Task
+  Writes : (accepted : Option AcceptedReason) → Task
   Lint : (accepted : Option Accepted) → Task
   Diff : (new : Text) (old_after new_after : Option When) → AskedChanges → Task
   Harts : (has_locks : Bool) → Task
   Import : (log : Text) → Format → Options → (folder : Option Text) → Task
   Plan : (from : Option Text) → (hart : Profile) → Aim → Form → Task
   PlanOf : Task
+  PolicyFrom : Task
 
 abbrev pub access_task : Access → AccessTask
 access_task access = record { mode = access.mode; kind = access.kind; start = access.start; length = access.length }
@@ -82,13 +86,14 @@ task_of (request.Audit audit) = Audit audit.trace.now audit.checkers
 task_of (request.LongAudit audit) = LongAudit audit.trace.now audit.jobs audit.first
 task_of (request.Policy policy) = Policy policy.path.now policy.pace policy.is_strict
 task_of (request.Show view after) = Show view after
-task_of request.Writes = Writes
+task_of (request.Writes accepted) = Writes accepted
 task_of (request.Lint accepted) = Lint accepted
 task_of (request.Diff diff) = Diff diff.new.now diff.old_after diff.new_after diff.changes
 task_of (request.Harts has_locks) = Harts has_locks
 task_of (request.Import log) = Import log.log.now log.format log.options (option_map (λ path. path.now) log.folder)
 task_of (request.Plan plan) = Plan (option_map (λ path. path.now) plan.from) plan.hart plan.aim plan.form
 task_of request.PlanOf = PlanOf
+task_of request.PolicyFrom = PolicyFrom
 
 -- a task, and the path of the script
 pub record Asked : Type 0 where
@@ -171,6 +176,13 @@ policy_in rows =
     and_then (second_in argument.Policy rows) (λ policy.
     Ok (Policy policy (if is_set argument.EachWrite rows then Events else Publications) (is_set argument.Strict rows)))
 
+-- a policy is written, and none is judged
+abbrev pub policy_from_in : List Row → Result Task FaultLine
+policy_from_in rows =
+    if is_used argument.Policy rows || (is_set argument.EachWrite rows || (is_set argument.Strict rows
+    || (is_used argument.Names rows || is_used argument.AsFormat rows)))
+    then Err (of_no_word BadWord) else Ok PolicyFrom
+
 -- all publications are done where the option isn't used
 abbrev pub show_in : View → List Row → Result Task FaultLine
 show_in view rows = and_then (asked_in when_said argument.After rows) (λ after. Ok (Show view after))
@@ -249,12 +261,13 @@ abbrev pub task_in : List Named → CommandName → List Row → Result Task Fau
 task_in names name.Check rows = check_in names rows
 task_in names name.Why rows = why_in names rows
 task_in names name.Audit rows = audit_in rows
-task_in names name.Policy rows = policy_in rows
+task_in names name.Policy rows = if is_set argument.Draft rows then policy_from_in rows else policy_in rows
 task_in names name.Dump rows = show_in (if is_set argument.AsScript rows then AsScript else Registers) rows
 task_in names name.Map rows = show_in Runs rows
 task_in names name.Picture rows = show_in Picture rows
 task_in names name.Entries rows = show_in Entries rows
-task_in names name.Writes rows = Ok Writes
+task_in names name.Writes rows =
+    and_then (asked_in accepted_reason_said argument.AcceptReason rows) (λ accepted. Ok (Writes accepted))
 task_in names name.Lint rows = and_then (asked_in accepted_said argument.Accept rows) (λ accepted. Ok (Lint accepted))
 task_in names name.Diff rows = diff_in rows
 task_in names name.Harts rows = Ok (Harts (is_set argument.Locks rows))

@@ -13,6 +13,7 @@ pub mod Names
 pub mod NamedAnswers
 pub mod NumberedInputs
 pub mod Harts
+pub mod RowFormats
 pub mod Runs
 pub mod Words
 pub mod HartWords

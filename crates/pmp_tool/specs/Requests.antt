@@ -34,6 +34,7 @@ use Rattle.pmp_audit.specs.ScriptDiff.{DiffRefuses, DiffSays}
 use Rattle.pmp_audit.specs.declared.long_audit.TheConstants.{PIECE}
 use Rattle.pmp_audit.specs.LongAudit.{LongAuditSays, StopsLong}
 use Rattle.pmp_audit.specs.Reasons.{FindingsSay, ReasonsSay}
+use Rattle.pmp_audit.specs.PolicyDraft.{DraftRefuses, DraftSays}
 use Rattle.pmp_audit.specs.PolicyCheck.{PolicyRefuses, PolicySays}
 use Rattle.pmp_audit.specs.SharedAudit.{SharedAuditRefuses}
 use Rattle.pmp_audit.specs.TraceAudit.{AuditRefuses, AuditSays}
@@ -48,7 +49,7 @@ use Rattle.pmp_tool.specs.declared.request.Plan.{Plan as AskedPlan}
 use Rattle.pmp_tool.specs.declared.request.Policy.{Policy as AskedPolicy}
 use Rattle.pmp_tool.specs.declared.request.Request.{Request}
 use Rattle.pmp_tool.specs.declared.request.Request.TheVariants.{Check, Why, Audit, LongAudit, Policy, Show, Writes, Lint, Diff}
-use Rattle.pmp_tool.specs.declared.request.Request.TheVariants.{Harts, Plan, PlanOf}
+use Rattle.pmp_tool.specs.declared.request.Request.TheVariants.{Harts, Plan, PlanOf, PolicyFrom}
 use Rattle.pmp_tool.specs.declared.request.Request.TheVariants.{Import as OfLog}
 use Rattle.pmp_tool.specs.declared.outcome.Outcome.{Outcome}
 use Rattle.pmp_tool.specs.declared.outcome.Outcome.TheVariants.{Decided, Explained, Audited, Judged, Listed, Replayed, Found}
@@ -146,7 +147,8 @@ RequestSays paths script (Policy asked) (Judged summary) text =
     (policy : List ℕ) × AreBytesOf (paths.traces asked.path.now) policy
     × PolicySays asked.pace script policy summary text × HasRows asked.is_strict summary
 RequestSays paths script (Show view after) Listed text = ViewSays view script after tt text
-RequestSays paths script Writes (Replayed summary) text = WritesSay script summary text
+RequestSays paths script (Writes accepted) (Replayed summary) text =
+    WritesSay (option_to_list accepted) script summary text
 RequestSays paths script (Lint accepted) (Found told) text =
     FindingsSay script (option_to_list accepted) told text
 RequestSays paths script (Diff diff) (Compared rows) text =
@@ -157,6 +159,7 @@ RequestSays paths script (OfLog import) (Imported note) text =
 RequestSays paths text (Plan plan) Listed written =
     (start : RegisterFile) × IsStart paths plan start × Tells start plan.aim plan.form text written
 RequestSays paths script PlanOf Listed text = IsPlanOfScript script text
+RequestSays paths script PolicyFrom Listed text = DraftSays script tt text
 RequestSays _ _ _ _ _ = ⊥
 
 -- which faults an audit is refused for; several checkers may also lack a place
@@ -252,7 +255,7 @@ module _ (before after : Option (List ℕ)) where
     RequestFails (Policy asked) = TraceFails (paths.traces asked.path.now) (PolicyFails asked script)
     RequestFails (Show view when) =
         MomentFails script argument.After when (Declines (ViewSays view script when) (FileRefuses script when))
-    RequestFails Writes = Declines (WritesSay script) (WritesRefuse script)
+    RequestFails (Writes accepted) = Declines (WritesSay (option_to_list accepted) script) (WritesRefuse script)
     RequestFails (Lint accepted) = Declines (FindingsSay script (option_to_list accepted)) (WritesRefuse script)
     RequestFails (Diff diff) =
         MomentFails script argument.OldAfter diff.old_after
@@ -266,3 +269,4 @@ module _ (before after : Option (List ℕ)) where
     RequestFails (Plan plan) = StartFails paths plan
         (λ start. IsUnplanned (PlanFails start plan.aim plan.form script before after))
     RequestFails PlanOf = IsUnplanned (PlanOfFails script before after)
+    RequestFails PolicyFrom = Declines (DraftSays script) (DraftRefuses script)

@@ -21,7 +21,9 @@ use Rattle.pmp_tool.specs.declared.request.Import.{Import}
 use Rattle.pmp_tool.specs.declared.request.Request.{Request}
 use Rattle.pmp_tool.specs.CommandLines.{IsRefusedCommandLine, MayAskForText, pmp_app}
 use Rattle.pmp_tool.specs.Commands.{asked, asked_of, names_path_in}
-use Rattle.pmp_tool.specs.Failures.{refused, unnamed}
+use Rattle.pmp_tool.specs.Failures.{in_memory, refused, unnamed}
+use Rattle.pmp_tool.specs.RowFormats.{asked_format_in, format_task, formed}
+use Rattle.pmp_tool.specs.declared.row_format.AskedFormat.{AskedFormat}
 use Rattle.pmp_tool.specs.HartComparisons.{FolderAnswer, FolderFails}
 use Rattle.pmp_tool.specs.HartImports.{CantMake, Makes, new_folder}
 use Rattle.pmp_tool.specs.Harts.{AreUnfound, IsOfNone, IsOfSome}
@@ -108,16 +110,47 @@ module _ (found : Option (Text × List Row)) (paths : Paths) (before after : Opt
           → Undone paths command before after naming failure → DoesNotAt failure
 
   -- that was done, with names where the words ask for some
-  pub record Does (made : Paths) (outcome : Outcome) : Type 0 where
+  pub record DoesRows (made : Paths) (outcome : Outcome) : Type 0 where
     pub path : Option Text
     pub at : names_path_in found ≡ Ok path
     pub done : DoesAt path made outcome
 
-  pub data DoesNot : Failure → Type 0 where
+  pub data DoesNoRows : Failure → Type 0 where
     -- two inputs are to be standard input
-    twice : (fault : FaultLine) → names_path_in found ≡ Err fault → Keeps before after → DoesNot (Refused fault)
+    twice : (fault : FaultLine) → names_path_in found ≡ Err fault → Keeps before after → DoesNoRows (Refused fault)
     once : (path : Option Text) (failure : Failure) → names_path_in found ≡ Ok path → DoesNotAt path failure
-        → DoesNot failure
+        → DoesNoRows failure
+
+-- rows that are to have another form are kept in memory until they are whole
+module _ (found : Option (Text × List Row)) (paths : Paths) (before after : Option (List ℕ)) where
+  abbrev pub DoesIn : Option AskedFormat → (made : Paths) → Outcome → Type 0
+  DoesIn None made outcome = DoesRows found paths before after made outcome
+  DoesIn (Some format) made outcome = (rows : List ℕ) × DoesRows found paths (Some []) (Some rows) made outcome
+      × Appends before after (formed format rows)
+
+  pub data DoesNotIn : Option AskedFormat → Failure → Type 0 where
+    no_rows : (failure : Failure) → DoesNoRows found paths before after failure → DoesNotIn None failure
+    no_rows_apart : (format : AskedFormat) (alone : Failure) (part : Option (List ℕ))
+        → DoesNoRows found paths (Some []) part alone → Keeps before after
+        → DoesNotIn (Some format) (in_memory alone)
+    unformed : (format : AskedFormat) → Keeps before after → DoesNotIn (Some format) (refused Memory)
+    formed_in_part : (format : AskedFormat) (rows : List ℕ) (made : Paths) (outcome : Outcome)
+        → DoesRows found paths (Some []) (Some rows) made outcome
+        → AppendsBeginning before after (formed format rows) → DoesNotIn (Some format) (refused Output)
+
+  -- that was done, in the form that the words ask for
+  pub record Does (made : Paths) (outcome : Outcome) : Type 0 where
+    pub format : Option AskedFormat
+    pub asked : asked_format_in found ≡ Ok (option_map format_task format)
+    pub done : DoesIn format made outcome
+
+  pub data DoesNot : Failure → Type 0 where
+    -- no form has this name
+    no_format : (fault : FaultLine) → asked_format_in found ≡ Err fault → Keeps before after
+        → DoesNot (Refused fault)
+    in_format : (format : Option AskedFormat) (failure : Failure)
+        → asked_format_in found ≡ Ok (option_map format_task format)
+        → DoesNotIn format failure → DoesNot failure
 
 -- what the words ask for was written: help or the version, or the answer to a command
 pub data Answers (words : List Text) (paths : Paths) (before after : Option (List ℕ)) (made : Paths)

@@ -21,12 +21,12 @@ use crate::numbered_inputs::{open_trace, read_trace};
 use crate::outcome::Outcome;
 use crate::plan_answers::{answer_plan, answer_plan_of};
 use crate::request::{Audit, Check, Diff, Import, LongAudit, Policy, Request, Why};
+use crate::script_answers::{answer_lint, answer_policy_from, answer_writes};
 use pmp_audit::{
     OpenGate, PIECE, Side, View, audit, audit_long, audit_shared, check, check_policy, diff,
-    explain, lint, show, writes,
+    explain, show,
 };
 use pmp_import::{Given, import, survey_log};
-use pmp_lint::Accepted;
 use pmp_text::{MAX_HEADED_SCRIPT, Refusal, When, is_headed};
 use std::alloc::Global;
 use std::io::Write;
@@ -77,13 +77,14 @@ fn answer_request<R: Threads + Wait + Sync, I: Inputs, O: Write>(
         ),
         Request::Policy(asked) => answer_policy(alloc, script, asked, naming, inputs, out),
         Request::Show(view, after) => answer_show(alloc, script, view, after, out),
-        Request::Writes => Ok(Outcome::Replayed(writes(alloc, script, out)?)),
+        Request::Writes(accepted) => answer_writes(alloc, script, accepted, out),
         Request::Lint(accepted) => answer_lint(alloc, script, accepted, out),
         Request::Diff(asked) => answer_diff(alloc, script, asked, inputs, out),
         Request::Harts(_) => Err(Failure::from(Refusal::BadFolder)),
         Request::Import(asked) => answer_import(alloc, asked, naming, inputs, out),
         Request::Plan(asked) => answer_plan(alloc, script, asked, inputs, out),
         Request::PlanOf => answer_plan_of(alloc, script, out),
+        Request::PolicyFrom => answer_policy_from(alloc, script, out),
     }
 }
 
@@ -136,25 +137,6 @@ fn answer_why<O: Write>(
     allow_name(script, Argument::After, asked.after)?;
     let decision = explain(alloc, script, &asked.access, asked.after, out)?;
     Ok(Outcome::Explained(decision, asked.is_bare))
-}
-
-/// Writes the findings in the script.
-fn answer_lint<O: Write>(
-    alloc: Global,
-    script: &[u8],
-    accepted: Option<Accepted>,
-    out: &mut O,
-) -> Result<Outcome, Failure>
-    ensures ok { (paths : Paths) → IfOk result (IsWritten (RequestSays paths script.now (request.Lint accepted))
-        (O.contents out.old) (O.contents out.new)) }
-    ensures err { (paths : Paths) → IfErr result (RequestFails (O.contents out.old) (O.contents out.new) paths
-        script.now (request.Lint accepted)) }
-{
-    let told = match accepted {
-        Some(finding) => lint(alloc, script, &[finding], out)?,
-        None => lint(alloc, script, &[], out)?,
-    };
-    Ok(Outcome::Found(told as u64))
 }
 
 /// Shows a view of a register file.

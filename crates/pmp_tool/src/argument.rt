@@ -37,6 +37,9 @@ pub enum Argument {
     Only,
     Locks,
     Accept,
+    AcceptReason,
+    AsFormat,
+    Draft,
     FirstRow,
     Checkers,
     Jobs,
@@ -94,7 +97,9 @@ impl Argument {
             Expect => "expect",
             Only => "only",
             Locks => "locks",
-            Accept => "accept",
+            Accept | AcceptReason => "accept",
+            AsFormat => "as-format",
+            Draft => "draft",
             FirstRow => "first-row",
             Checkers => "checkers",
             Jobs => "jobs",
@@ -133,7 +138,7 @@ impl Argument {
             Start => "START",
             Length => "LENGTH",
             Explain | Long | EachWrite | Strict | AsScript | Locks | Bursts => "",
-            Mml | Mmwp | Rlb | AsArray | Of | Keep | WhileM => "",
+            Mml | Mmwp | Rlb | AsArray | Of | Keep | WhileM | Draft => "",
             After | OldAfter | FirstRow | Jobs | Hart | Xlen | Entries | AddressBits => "N",
             Grain => "BYTES",
             Smepmp => "ANSWER",
@@ -146,6 +151,8 @@ impl Argument {
             Expect => "ANSWER",
             Only => "CHANGE",
             Accept => "FINDING",
+            AcceptReason => "REASON",
+            AsFormat => "FORM",
             Checkers => "K",
         }
     }
@@ -175,6 +182,9 @@ impl Argument {
             Only => help::ONLY,
             Locks => help::LOCKS,
             Accept => help::ACCEPT,
+            AcceptReason => help::ACCEPT_REASON,
+            AsFormat => help::AS_FORMAT,
+            Draft => help::DRAFT,
             FirstRow => help::FIRST_ROW,
             Checkers => help::CHECKERS,
             Jobs => help::JOBS,
@@ -225,12 +235,14 @@ impl Argument {
             | Keep
             | WhileM => { flag(alloc, id, help) }
             AsScript => flag(alloc, id, help).long("script"),
+            Draft => flag(alloc, id, help).long("from"),
             After
             | OldAfter
             | NewAfter
             | Expect
             | Only
             | Accept
+            | AcceptReason
             | FirstRow
             | Hart
             | Xlen
@@ -241,13 +253,14 @@ impl Argument {
             | Names
             | Folder
             | From => option(alloc, id, name, help),
+            AsFormat => option(alloc, id, name, help).long("format"),
             Checkers => count(alloc, id, name, CHECKERS, help),
             Jobs => count(alloc, id, name, JOBS, help),
+            Policy => Arg::new(alloc, id).value_name(name).help(help),
             Script
             | Old
             | New
             | Trace
-            | Policy
             | Mode
             | Kind
             | Start
@@ -272,6 +285,9 @@ impl Argument {
             Argument::Start => "a number, or with --names NAME or NAME+OFFSET",
             Argument::Accept =>
                 "the name of a finding, as mmwp-off, perhaps with a line, as mmwp-off:7",
+            Argument::AsFormat => "csv, json or markdown, and of policy and lint junit or sarif",
+            Argument::AcceptReason =>
+                "a reason of pmp writes, as bits, perhaps with a line, as bits:7, or differs",
             Argument::FirstRow => "a number from 1 on",
             Argument::Checkers => "a number from 1 to 8",
             Argument::Jobs => "a number from 1 to 64",
@@ -281,6 +297,7 @@ impl Argument {
             Argument::Entries => "a number from 0 to 64",
             Argument::Grain => "a number of bytes: 4, 8, 16 and so on to 4096",
             Argument::AddressBits => "a number from 34 to 56, or with --xlen 32 from 32 to 34",
+            Argument::Policy => "the path of a policy, unless --from writes one",
             _ => "a number",
         }
     }

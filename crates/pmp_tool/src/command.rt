@@ -3,28 +3,25 @@
 ghost use Rattle.std.specs.Prelude.{◌≡◌, map, option_map};
 ghost use Rattle.clap.specs.Words.{found_of, rows_of, subcommand_rows_of};
 ghost use Rattle.pmp_tool.specs.Commands.{access_in, access_task, asked, asked_of, audit_in, check_in, command_named};
-ghost use Rattle.pmp_tool.specs.Commands.{diff_in, folder_in, format_in, from_in, import_in, long_audit_in, options_in};
-ghost use Rattle.pmp_tool.specs.Commands.{options_with};
+ghost use Rattle.pmp_tool.specs.Commands.{diff_in, from_in, long_audit_in};
 ghost use Rattle.pmp_names.specs.NameLists.{named};
 ghost use Rattle.pmp_tool.specs.Commands.{names_path_in, path_in, plan_in, plan_of_in, policy_in, reads_stdin, second_in};
-ghost use Rattle.pmp_tool.specs.Commands.{show_in, start_in, task_in};
+ghost use Rattle.pmp_tool.specs.Commands.{policy_from_in, show_in, start_in, task_in};
 ghost use Rattle.pmp_tool.specs.Commands.{task_of, whole_audit_in, why_in};
 ghost use Rattle.pmp_tool.specs.Words.{result_map};
 
 use crate::argument::Argument;
 use crate::command_name::CommandName;
 use crate::expected::Expected;
-use crate::fault_line::{FaultLine, Place};
+use crate::fault_line::FaultLine;
 use crate::hart_words::{read_aim, read_hart, says_aim, says_hart};
+use crate::import_words::read_import;
 use crate::jobs::JOBS;
-use crate::request::{Audit, Check, Diff, Import, LongAudit, Plan, Policy, Request, Why};
-use crate::word::{
-    Smepmp, Xlen, asked, count, is_bare_word, is_set, is_stdin, is_used, needed, word,
-};
+use crate::request::{Audit, Check, Diff, LongAudit, Plan, Policy, Request, Why};
+use crate::word::{asked, count, is_bare_word, is_set, is_stdin, is_used, needed, word};
 use clap::ArgMatches;
 use pmp_audit::{AskedChanges, Pace, View};
 use pmp_core::Access;
-use pmp_import::{Format, Options};
 use pmp_names::{AddressName, read_address};
 use pmp_plan::Form;
 use pmp_share::CHECKERS;
@@ -38,7 +35,8 @@ pub struct Command<'a> {
     pub request: Request<'a>,
 }
 
-fn read_name(word: &str) -> Option<CommandName>
+/// Returns the command that a word names.
+pub fn read_name(word: &str) -> Option<CommandName>
     ensures { result ≡ command_named word.now }
 {
     CommandName::ALL
@@ -48,7 +46,7 @@ fn read_name(word: &str) -> Option<CommandName>
 }
 
 /// Returns the subcommand that `clap` found in the words, and its matches.
-fn found<'b, 'a>(matches: &'b ArgMatches<'a>) -> Option<(&'a str, &'b ArgMatches<'a>)>
+pub fn found<'b, 'a>(matches: &'b ArgMatches<'a>) -> Option<(&'a str, &'b ArgMatches<'a>)>
     ensures { option_map (λ found. (found.0.now, rows_of (found_of found.1.now))) result
         ≡ subcommand_rows_of matches.now }
 {
@@ -105,13 +103,14 @@ fn read_request<'a>(
         CommandName::Check => read_check(words, names),
         CommandName::Why => read_why(words, names),
         CommandName::Audit => read_audit(words),
+        CommandName::Policy if is_set(words, Argument::Draft) => read_policy_from(words),
         CommandName::Policy => read_policy(words),
         CommandName::Dump if is_set(words, Argument::AsScript) => read_show(View::Script, words),
         CommandName::Dump => read_show(View::Registers, words),
         CommandName::Map => read_show(View::Runs, words),
         CommandName::Picture => read_show(View::Picture, words),
         CommandName::Entries => read_show(View::Entries, words),
-        CommandName::Writes => Ok(Request::Writes),
+        CommandName::Writes => Ok(Request::Writes(asked(words, Argument::AcceptReason)?)),
         CommandName::Lint => Ok(Request::Lint(asked(words, Argument::Accept)?)),
         CommandName::Diff => read_diff(words),
         CommandName::Harts => Ok(Request::Harts(is_set(words, Argument::Locks))),
@@ -121,7 +120,7 @@ fn read_request<'a>(
 }
 
 /// Returns the path in an argument that its command requires.
-fn path<'a>(words: &ArgMatches<'a>, argument: Argument) -> Result<&'a str, FaultLine>
+pub fn path<'a>(words: &ArgMatches<'a>, argument: Argument) -> Result<&'a str, FaultLine>
     ensures { result_map (λ path. path.now) result ≡ path_in argument (rows_of (found_of words.now)) }
 {
     word(words, argument).ok_or(FaultLine::of_word(argument))
@@ -234,6 +233,21 @@ fn read_policy<'a>(words: &ArgMatches<'a>) -> Result<Request<'a>, FaultLine>
     }))
 }
 
+/// Returns a request for a policy, which goes with no other option.
+fn read_policy_from<'a>(words: &ArgMatches) -> Result<Request<'a>, FaultLine>
+    ensures { result_map task_of result ≡ policy_from_in (rows_of (found_of words.now)) }
+{
+    if is_used(words, Argument::Policy)
+        || is_set(words, Argument::EachWrite)
+        || is_set(words, Argument::Strict)
+        || is_used(words, Argument::Names)
+        || is_used(words, Argument::AsFormat)
+    {
+        return Err(FaultLine::from(Refusal::BadWord));
+    }
+    Ok(Request::PolicyFrom)
+}
+
 /// Returns a view of the script, after all publications unless the words say when.
 fn read_show<'a>(view: View, words: &ArgMatches) -> Result<Request<'a>, FaultLine>
     ensures { result_map task_of result ≡ show_in view (rows_of (found_of words.now)) }
@@ -302,82 +316,4 @@ fn read_plan_of<'a>(words: &ArgMatches) -> Result<Request<'a>, FaultLine>
         return Err(FaultLine::from(Refusal::BadWord));
     }
     Ok(Request::PlanOf)
-}
-
-fn read_format(words: &ArgMatches) -> Result<Format, FaultLine>
-    ensures { result ≡ format_in (rows_of (found_of words.now)) }
-{
-    let word = path(words, Argument::Format)?;
-    match Format::named(word.as_bytes()) {
-        Some(format) => Ok(format),
-        None => Err(FaultLine {
-            refusal: Refusal::BadFormat,
-            place: Place::Word(Argument::Format),
-        }),
-    }
-}
-
-/// Returns the options for a hart with this XLEN and these numbers.
-fn read_options_with(
-    words: &ArgMatches,
-    xlen: Option<Xlen>,
-    hart: Option<u64>,
-    entries: Option<u64>,
-) -> Result<Options, FaultLine>
-    ensures { result ≡ options_with xlen hart entries (rows_of (found_of words.now)) }
-{
-    let grain = asked(words, Argument::Grain)?;
-    let bits = asked(words, Argument::AddressBits)?;
-    let smepmp = asked::<Smepmp>(words, Argument::Smepmp)?;
-    Ok(Options {
-        hart,
-        is_rv32: xlen.map(|said| said.is_rv32),
-        entries,
-        grain,
-        bits,
-        has_smepmp: smepmp.map(|said| said.is_there).unwrap_or(true),
-        bursts: is_set(words, Argument::Bursts),
-    })
-}
-
-fn read_options(words: &ArgMatches) -> Result<Options, FaultLine>
-    ensures { result ≡ options_in (rows_of (found_of words.now)) }
-{
-    let hart = asked(words, Argument::Hart)?;
-    let xlen = asked::<Xlen>(words, Argument::Xlen)?;
-    let entries = asked(words, Argument::Entries)?;
-    read_options_with(words, xlen, hart, entries)
-}
-
-/// Returns the path of the folder for the scripts of all harts: no single hart is then asked for, and the log is read
-/// several times.
-fn read_folder<'a>(
-    words: &ArgMatches<'a>,
-    log: &str,
-    options: Options,
-) -> Result<Option<&'a str>, FaultLine>
-    ensures { result_map (option_map (λ path. path.now)) result
-        ≡ folder_in log.now options (rows_of (found_of words.now)) }
-{
-    match word(words, Argument::Folder) {
-        Some(_) if options.hart.is_some() || log == "stdin" => {
-            Err(FaultLine::of_word(Argument::Folder))
-        }
-        folder => Ok(folder),
-    }
-}
-
-fn read_import<'a>(words: &ArgMatches<'a>) -> Result<Request<'a>, FaultLine>
-    ensures { result_map task_of result ≡ import_in (rows_of (found_of words.now)) }
-{
-    let format = read_format(words)?;
-    let log = path(words, Argument::Script)?;
-    let options = read_options(words)?;
-    let folder = read_folder(words, log, options)?;
-    Ok(Request::Import(Import {
-        log,
-        format,
-        options,
-        folder,
-    }))
 }

@@ -95,19 +95,25 @@ impl CommandName {
             CommandName::Check => &[
                 Script, Explain, Mode, Kind, Start, Length, After, Expect, Names,
             ],
-            CommandName::Why => &[Script, Explain, Mode, Kind, Start, Length, After, Names],
+            CommandName::Why => &[
+                Script, Explain, Mode, Kind, Start, Length, After, Names, AsFormat,
+            ],
             CommandName::Audit => &[
                 Script, Explain, Trace, Checkers, Long, Jobs, FirstRow, Names,
             ],
-            CommandName::Policy => &[Script, Explain, Policy, EachWrite, Strict, Names],
+            CommandName::Policy => &[
+                Script, Explain, Policy, EachWrite, Strict, Draft, Names, AsFormat,
+            ],
             CommandName::Dump => &[Script, Explain, After, AsScript],
-            CommandName::Map => &[Script, Explain, After, Names],
+            CommandName::Map => &[Script, Explain, After, Names, AsFormat],
             CommandName::Picture => &[Script, Explain, After, Names],
-            CommandName::Entries => &[Script, Explain, After, Names],
-            CommandName::Writes => &[Script, Explain],
-            CommandName::Lint => &[Script, Explain, Accept, Names],
-            CommandName::Diff => &[Old, Explain, New, OldAfter, NewAfter, Only, Locks, Names],
-            CommandName::Harts => &[Harts, Explain, Locks, Names],
+            CommandName::Entries => &[Script, Explain, After, Names, AsFormat],
+            CommandName::Writes => &[Script, Explain, AcceptReason, AsFormat],
+            CommandName::Lint => &[Script, Explain, Accept, Names, AsFormat],
+            CommandName::Diff => &[
+                Old, Explain, New, OldAfter, NewAfter, Only, Locks, Names, AsFormat,
+            ],
+            CommandName::Harts => &[Harts, Explain, Locks, Names, AsFormat],
             CommandName::Import => &[
                 Format,
                 Explain,

@@ -35,10 +35,11 @@ fn takes_folder(request: Request<'_>) -> bool
 {
     match request {
         Request::Check(_) | Request::Why(_) | Request::Audit(_) | Request::Policy(_) => true,
-        Request::Show(View::Runs | View::Entries, _) | Request::Writes | Request::Diff(_) => true,
+        Request::Show(View::Runs | View::Entries, _) | Request::Writes(_) | Request::Diff(_) =>
+            true,
         Request::Lint(_) | Request::Harts(_) => true,
         Request::LongAudit(_) | Request::Show(..) | Request::Import(_) => false,
-        Request::Plan(_) | Request::PlanOf => false,
+        Request::Plan(_) | Request::PlanOf | Request::PolicyFrom => false,
     }
 }
 

@@ -62,6 +62,15 @@ pub const LOCKS: &str = "Also a row for each longest range of bytes that the two
 pub const ACCEPT: &str =
     "Leaves out findings named FINDING; with FINDING:LINE, those of that line alone";
 
+pub const ACCEPT_REASON: &str =
+    "Takes no notice of REASON in the exit status; with REASON:LINE, at that line alone";
+
+pub const DRAFT: &str =
+    "Writes a policy of all that is closed in the end; goes with no policy, and no other option except --explain";
+
+pub const AS_FORMAT: &str =
+    "Writes the rows in another form: json or markdown, and of policy and lint junit or sarif";
+
 pub const SCRIPT: &str =
     "The path of a script of at most 1048576 bytes, 67108864 with pmp 3, or stdin for standard input; its first line \
     is pmp 1 for 16 entries, pmp 2 for 64, pmp 3 for any hart";

@@ -5,7 +5,7 @@ ghost use Rattle.pmp_core.specs.Hart.{hart_fault};
 ghost use Rattle.pmp_share.specs.declared.opening.TheConstants.{CHECKERS};
 
 use crate::expected::Expected;
-use pmp_audit::{AskedChanges, Pace, View};
+use pmp_audit::{AcceptedReason, AskedChanges, Pace, View};
 use pmp_core::{Access, Profile};
 use pmp_import::{Format, Options};
 use pmp_lint::Accepted;
@@ -112,7 +112,8 @@ pub enum Request<'a> {
     Policy(Policy<'a>),
     /// The view, and when, unless after all publications.
     Show(View, Option<When>),
-    Writes,
+    /// The effect of each write, and the reason that is accepted.
+    Writes(Option<AcceptedReason>),
     /// The findings in it, and which of them are accepted.
     Lint(Option<Accepted>),
     Diff(Diff<'a>),
@@ -123,4 +124,6 @@ pub enum Request<'a> {
     Plan(Plan<'a>),
     /// The plan that a script's registers implement.
     PlanOf,
+    /// The policy of what is closed after the script's last publication.
+    PolicyFrom,
 }

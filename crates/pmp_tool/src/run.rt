@@ -12,8 +12,12 @@ ghost use Rattle.pmp_tool.specs.Runs.{
   Answers,
   Does,
   DoesAt,
+  DoesIn,
+  DoesNoRows,
   DoesNot,
   DoesNotAt,
+  DoesNotIn,
+  DoesRows,
   Done,
   DoneBy,
   Fails,
@@ -29,6 +33,7 @@ use crate::command::{Command, names_path, read_command};
 use crate::command_line::parse_words;
 use crate::explanation::tell_and_explain;
 use crate::failure::Failure;
+use crate::format_words::asked_format;
 use crate::hart_answers::answer_one;
 use crate::hart_comparison::answer_folder;
 use crate::hart_imports::{import_harts, new_folder};
@@ -37,6 +42,7 @@ use crate::inputs::Inputs;
 use crate::naming::Naming;
 use crate::note::tell_note;
 use crate::outcome::Outcome;
+use crate::row_format::AskedFormat;
 use clap::ArgMatches;
 use pmp_names::read_names;
 use pmp_text::write_out;
@@ -123,6 +129,50 @@ fn answer_words<R: Threads + Wait + Sync, I: Inputs, O: Write>(
     ensures ok { IfOk result (Does (subcommand_rows_of matches.now) (I.paths inputs.old) (O.contents out.old)
         (O.contents out.new) (I.paths inputs.new)) }
     ensures err { IfErr result (DoesNot (subcommand_rows_of matches.now) (I.paths inputs.old) (O.contents out.old)
+        (O.contents out.new)) }
+{
+    match asked_format(matches)? {
+        None => answer_rows(rt, alloc, matches, inputs, out),
+        Some(format) => answer_formed(rt, alloc, matches, format, inputs, out),
+    }
+}
+
+/// Answers them in memory, and writes the rows in another form.
+fn answer_formed<R: Threads + Wait + Sync, I: Inputs, O: Write>(
+    rt: &R,
+    alloc: Global,
+    matches: &ArgMatches<'_>,
+    format: AskedFormat<'_>,
+    inputs: &mut I,
+    out: &mut O,
+) -> Result<Outcome, Failure>
+    ensures ok { IfOk result (DoesIn (subcommand_rows_of matches.now) (I.paths inputs.old) (O.contents out.old)
+        (O.contents out.new) (Some format.entry) (I.paths inputs.new)) }
+    ensures err { IfErr result (DoesNotIn (subcommand_rows_of matches.now) (I.paths inputs.old) (O.contents out.old)
+        (O.contents out.new) (Some format.entry)) }
+{
+    let mut rows = Vec::new(alloc);
+    match answer_rows(rt, alloc, matches, inputs, &mut rows) {
+        Ok(outcome) => {
+            let text = format.of(alloc, rows)?;
+            write_out(out, &text)?;
+            Ok(outcome)
+        }
+        Err(failure) => Err(failure.in_memory()),
+    }
+}
+
+/// Answers them in rows.
+fn answer_rows<R: Threads + Wait + Sync, I: Inputs, O: Write>(
+    rt: &R,
+    alloc: Global,
+    matches: &ArgMatches<'_>,
+    inputs: &mut I,
+    out: &mut O,
+) -> Result<Outcome, Failure>
+    ensures ok { IfOk result (DoesRows (subcommand_rows_of matches.now) (I.paths inputs.old) (O.contents out.old)
+        (O.contents out.new) (I.paths inputs.new)) }
+    ensures err { IfErr result (DoesNoRows (subcommand_rows_of matches.now) (I.paths inputs.old) (O.contents out.old)
         (O.contents out.new)) }
 {
     match names_path(matches)? {

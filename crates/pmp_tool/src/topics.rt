@@ -232,6 +232,15 @@ FOLDER` makes a folder with one for each hart that writes, like `hart0.pmp`.
   publish
   pmp: note: hart 0, 16 entries, since the log is read once
 
+`why`, `policy`, `map`, `entries`, `writes`, `lint`, `diff` and `harts` write
+their rows in another form with `--format`: `json`, an array with an object for
+each row, on a line each, or `markdown`, a table with a head. `csv` is the rows'
+own form. The columns have the names of these pages in lower case; with a folder
+the first one is `hart`, and with `--names` the last one is `names`. `policy`
+and `lint` also take `junit`, a suite of tests with a case for each row, and
+`sarif`, which code hosts show beside the script's lines. The exit status is the
+same.
+
 `pmp help script`, `pmp help trace`, `pmp help names` and `pmp help rows`
 describe formats, and `pmp help COMMAND` a command, its arguments and its
 output. docs/FORMATS.md describes all of it byte by byte, and has every refusal
@@ -433,6 +442,12 @@ from the first publication on\"`.
 A policy without rows holds, and a note says that it has none. With `--strict`
 it is refused (71).
 
+`pmp policy --from SCRIPT` writes a policy to begin with: for M-mode, and for S-
+and U-mode, which have the same rights, and for each of the three kinds, a row
+`never` for each of the longest ranges of bytes that are closed to it after the
+last publication. Each of these rows holds for that script. Take out those that
+a later boot may break.
+
 `pmp policy` writes a row for each row of the policy, in order: `N,holds,,,,`,
 or `N,broken,DONE,FIRST,LAST,OWNER` with only its first breach, by time, then
 address, or `N,unmet,,,,`; then, if the header has them, `,NAME,COMMENT`.
@@ -457,6 +472,10 @@ Exit status:
   3  no answer: memory, an input, the output or a checker failed
 
 Example:
+  printf 'pmp 1\\nwrite pmpcfg0 0x1b\\npublish\\n' | pmp policy --from stdin
+  It answers from,to,modes,kind,first,last,demand
+
+Example of the verdict rows:
   printf 'from,to,modes,kind,first,last,demand\\n0,,MU,any,0,15,never\\n' > p.csv
   echo 'pmp 1' | pmp policy stdin p.csv
   It answers 1,broken,0,00000000000000,0000000000000f,-
@@ -619,6 +638,11 @@ each event of the script, in order, and then for each `expect`, by line.
                write if and only if it is stored
   ENTRIES      the entries for which frozen, tor, reserved, lockdown or grain is
                a reason, ascending, separated by spaces
+
+The status is 1 if a write isn't `stored` or an `expect` `differs`. With
+`--accept REASON` writes that have only this reason don't count, with `--accept
+differs` no `expect` does, and with `:LINE` behind the word only that line
+doesn't. No row is left out.
   absent    the value isn't 0 for an entry, or for mseccfg or mseccfgh, that the
             hart doesn't have
   bits      the value has bits that the register doesn't have: of an address 63

@@ -2,6 +2,7 @@
 
 ghost use Rattle.std.specs.Prelude.{◌≡◌, ◌<◌, ◌≤◌, IfSome, List, ℕ, Option, option_map};
 ghost use Rattle.clap.specs.Words.{found_of, rows_of};
+ghost use Rattle.pmp_audit.specs.AcceptedReasons.{accepted_reason_said};
 ghost use Rattle.pmp_core.specs.declared.access.Kind.{Kind};
 ghost use Rattle.pmp_core.specs.declared.access.Mode.{Mode};
 ghost use Rattle.pmp_lint.specs.Findings.{accepted_said};
@@ -10,12 +11,15 @@ ghost use Rattle.pmp_text.specs.Moments.{when_said};
 ghost use Rattle.pmp_text.specs.Numbers.{word_number};
 ghost use Rattle.pmp_tool.specs.Words.{byte_named, expected_named, grain_named, only_named, place_of, smepmp_named, xlen_named};
 ghost use Rattle.pmp_tool.specs.Words.{asked_in, bad_word, count_in, is_bare_word, is_set, is_stdin, is_used, needed_in};
+ghost use Rattle.pmp_tool.specs.RowFormats.{row_format_named};
 ghost use Rattle.pmp_tool.specs.Words.{word_in};
 
 use crate::argument::Argument;
 use crate::expected::Expected;
 use crate::fault_line::{FaultLine, Place};
+use crate::row_format::RowFormat;
 use clap::ArgMatches;
+use pmp_audit::AcceptedReason;
 use pmp_core::{Kind, Mode};
 use pmp_lint::Accepted;
 use pmp_text::{Only, Refusal, When, is_bare, read_kind, read_mode, read_word_number};
@@ -92,6 +96,30 @@ impl Form for Accepted {
     /// Reads `NAME` or `NAME:LINE`, as `pmp lint` writes them.
     fn read(word: &str) -> Option<Accepted> {
         Accepted::read(word.as_bytes())
+    }
+}
+
+impl Form for AcceptedReason {
+    ghost named = { accepted_reason_said };
+
+    /// Reads `REASON` or `REASON:LINE`, as `pmp writes` writes them.
+    fn read(word: &str) -> Option<AcceptedReason> {
+        AcceptedReason::read(word.as_bytes())
+    }
+}
+
+impl Form for RowFormat {
+    ghost named = { row_format_named };
+
+    fn read(word: &str) -> Option<RowFormat> {
+        match word {
+            "csv" => Some(RowFormat::Csv),
+            "json" => Some(RowFormat::Json),
+            "markdown" => Some(RowFormat::Markdown),
+            "junit" => Some(RowFormat::Junit),
+            "sarif" => Some(RowFormat::Sarif),
+            _ => None,
+        }
     }
 }
 

@@ -19,7 +19,7 @@ use Rattle.pmp_audit.specs.View.{ViewSays}
 use Rattle.pmp_audit.specs.declared.view.View.{View}
 use Rattle.pmp_audit.specs.WriteList.{WritesSay}
 use Rattle.pmp_audit.specs.PolicyCheck.{VerdictRefuses, VerdictSays}
-use Rattle.pmp_audit.specs.Reasons.{ReasonsSay}
+use Rattle.pmp_audit.specs.Reasons.{FindingsSay, ReasonsSay}
 use Rattle.pmp_audit.specs.ScriptDiff.{DiffSays}
 use Rattle.pmp_import.specs.declared.fault.ImportFault.{ImportFault}
 use Rattle.pmp_import.specs.declared.format.Format.{Format}
@@ -76,7 +76,11 @@ pub record CountSays (script text : List ℕ) : Type 0 where
 
 -- the text has a row for each event
 abbrev pub RowsSay : (script text : List ℕ) → Type 0
-RowsSay script text = (summary : WriteSummary) × WritesSay script summary text
+RowsSay script text = (summary : WriteSummary) × WritesSay [] script summary text
+
+-- the text has a row for each finding
+abbrev pub LintAnswerSays : (script text : List ℕ) → Type 0
+LintAnswerSays script text = (told : ℕ) × FindingsSay script [] told text
 
 -- the text has the row that says why it is decided so, and those of its answers at all moments
 abbrev pub WhyAnswerSays : (script : List ℕ) → Access → (after : ℕ) → (text : List ℕ) → Type 0

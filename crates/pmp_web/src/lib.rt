@@ -14,7 +14,7 @@ ghost use Rattle.pmp_audit.specs.WriteList.{WritesRefuse};
 ghost use Rattle.pmp_text.specs.declared.moments.When.TheVariants.{Number};
 ghost use Rattle.pmp_audit.specs.ScriptDiff.{DiffRefuses};
 ghost use Rattle.pmp_web.specs.Answers.{Answers, AnswersAccess, AnswersImport, AnswersVerdict, AnswersView};
-ghost use Rattle.pmp_web.specs.Answers.{CountSays, DiffAnswerSays, RowsSay};
+ghost use Rattle.pmp_web.specs.Answers.{CountSays, DiffAnswerSays, LintAnswerSays, RowsSay};
 ghost use Rattle.pmp_web.specs.Demand.{question_of};
 ghost use Rattle.pmp_web.specs.Plans.{AnswersMeets, AnswersPlan, security_of};
 ghost use Rattle.pmp_web.specs.Request.{format_of, view_of};
@@ -28,7 +28,8 @@ mod rooms;
 use answering::{ANSWERED, GUESSED, Log, append_count, refuse, refuse_log, refuse_question, tell};
 use plans::{file_after, security_of, tell_script, tell_verdicts};
 use pmp_audit::{
-    AskedChanges, append_diff, append_reasons, append_verdict, append_view, append_writes,
+    AskedChanges, append_diff, append_findings, append_reasons, append_verdict, append_view,
+    append_writes,
 };
 use pmp_import::append_import;
 use pmp_text::{Refusal, When};
@@ -76,7 +77,17 @@ pub extern "C" fn tilvenka_page_writes(script: &Script, answer: &mut Answer) -> 
         Answers (RowsSay script) (WritesRefuse script) result answer.new }
 {
     let log = &mut Log::new();
-    tell!(answer, append_writes(log, script.text(), answer))
+    tell!(answer, append_writes(log, script.text(), &[], answer))
+}
+
+/// Writes a row for each finding of the script, like `pmp lint`.
+#[unsafe(no_mangle)]
+pub extern "C" fn tilvenka_page_lint(script: &Script, answer: &mut Answer) -> u32
+    ensures { let script = script_in script.now in
+        Answers (LintAnswerSays script) (WritesRefuse script) result answer.new }
+{
+    let log = &mut Log::new();
+    tell!(answer, append_findings(log, script.text(), &[], answer))
 }
 
 /// Decides one access after the given number of publications, and writes why, and its answers at all moments, like

@@ -9,8 +9,8 @@ invariant-loop-expectation g l = record {
   rows : g.S.Sink.text l.out ++ expected_rows l.script (drop l.expectation-index l.script.expectations)
       ≡ g.S.Sink.text l.initial.out ++ expected_rows l.script l.script.expectations;
   grown : HasGrown (g.S.Sink.text l.initial.out) (g.S.Sink.text l.out);
-  counted : l.count + differing l.script (drop l.expectation-index l.script.expectations)
-      ≡ differing l.script l.script.expectations;
+  counted : l.count + differing l.accepted l.script (drop l.expectation-index l.script.expectations)
+      ≡ differing l.accepted l.script l.script.expectations;
   few : l.count ≤ l.expectation-index;
   file : l.file ≡ file_at_event l.script l.done;
 }

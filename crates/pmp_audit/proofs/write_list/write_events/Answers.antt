@@ -8,11 +8,11 @@ loop-index-preserved g c =
     let index = c.loop-index.index in
     let written = c.in_ok-summary.ensures.written in
     let counted = written.counted in
-    let count = length-placed (index + 1) c.lines-lines.result.now c.batch-events.result.now in
-    let limit = c.batch-events.ensures.limit in
+    let count = length-placed (index + 1) c.lines.result.now c.batch.result.now in
+    let limit = c.batch.ensures.limit in
     record {
-      written = rw (events_more c.args.script.now index) (written_then _ _ _ _ _ c.loop-index.invariant.written
-          (rw (c.lines-lines.ensures, c.batch-events.ensures.events) at written));
+      written = rw (events_more c.args.script.now index) (written_then _ _ _ _ _ _ c.loop-index.invariant.written
+          (rw (c.lines.ensures, c.batch.ensures.events) at written));
       few = omega arith;
       within = c.in_ok-summary.ensures.within;
     }
@@ -30,5 +30,5 @@ returns-clause-counted g c =
     let all : c.loop-index.index ≡ length c.args.script.now.batches =
     omega (arith, c.batches-index-end.ensures) in
     let written = rw all at c.loop-index.invariant.written in
-    summary_all c.args.script.now.start (placed_events c.args.script.now) c.loop-index.summary
+    summary_all c.args.script.now.start c.args.accepted.now (placed_events c.args.script.now) c.loop-index.summary
     written.counted written.turned

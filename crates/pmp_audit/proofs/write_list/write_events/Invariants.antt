@@ -6,7 +6,7 @@ use Rattle.pmp_audit.proofs.write_list.write_events.Given as goal
 -- the publications so far are written, and each has at most 64 events
 abbrev pub invariant-loop-index : goal.invariant-loop-index
 invariant-loop-index g l = record {
-  written : AreWritten
+  written : AreWritten l.accepted
       (record {
         text = (g.S.Sink.text l.initial.out);
         file = l.script.start;

@@ -6,9 +6,9 @@ use Rattle.pmp_audit.proofs.write_list.write_publication.Given as goal
 -- the events so far are written
 abbrev pub invariant-loop-line : goal.invariant-loop-line
 invariant-loop-line g l = record {
-  written : AreWritten
+  written : AreWritten l.accepted
       (record { text = (g.S.Sink.text l.fn.out); file = l.fn.file; summary = l.fn.before })
       (record { text = (g.S.Sink.text l.out); file = l.file; summary = l.summary })
-      (take (length l.yielded) (placed l.publication l.lines l.events));
+      (take (length l.yielded) (placed l.publication.number l.publication.lines.now l.publication.events.now));
   within : l.summary.not_stored ≤ l.summary.events;
 }

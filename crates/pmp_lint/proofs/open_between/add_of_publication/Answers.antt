@@ -1,17 +1,19 @@
-use Rattle.std.proofs.Common.{◌∙◌, sym, rules, arith}
+use Rattle.std.proofs.Common.{◌∙◌, sym}
 use Rattle.pmp_core.specs.declared.csr.Csr.TheVariants.{Cfg}
 use Rattle.pmp_core.specs.declared.event.Event.{Event}
 use Rattle.pmp_core.specs.declared.event.Event.TheVariants.{Write}
+use Rattle.pmp_text.proofs.Prefixes.{on_err}
 use Rattle.pmp_lint.specs.Events.{happenings_from}
 use Rattle.pmp_lint.proofs.Happenings.{file_on, happening_here, happenings_on, none_left}
-use Rattle.pmp_lint.proofs.OpenBetween.{all_events, no_event, one_event_more}
+use Rattle.pmp_lint.proofs.OpenBetween.{all_events, one_event_more}
+use Rattle.pmp_lint.proofs.Telling.{begins}
 use Rattle.pmp_lint.proofs.open_between.add_of_publication.Goals as goal
 
 abbrev none : Event
 none = Write (Cfg 0) 0
 
 pub loop-place-preserved : goal.loop-place-preserved
-loop-place-preserved c =
+loop-place-preserved g c =
     let place = c.loop-place.place in
     let file = c.loop-place.file in
     let events = c.args.events.now in
@@ -19,25 +21,29 @@ loop-place-preserved c =
     let inside = c.loop-place-test.true in
     record {
       file = rw c.step.ensures.step (sym (file_on place file events lines none inside) ∙ c.loop-place.invariant.file);
-      found = rw c.step.ensures.step (one_event_more c.args.file.now c.run_events.new.self
-          (happenings_from 0 c.args.file.now events lines) c.args.found.now.items
-          (happening_here place file events lines none) _ c.loop-place.found.items c.add_opened.new.found.items
-          (rw (happenings_on place file events lines none inside) at c.loop-place.invariant.found)
+      told = rw c.step.ensures.step (one_event_more c.args.file.now c.run_events.new.self
+          (happenings_from 0 c.args.file.now events lines) _ (happening_here place file events lines none) _ _ _
+          (rw (happenings_on place file events lines none inside) at c.loop-place.invariant.told)
           (rw (
             c.registers.ensures.same,
             c.registers-in-loop-place.ensures.same,
             c.registers-in-loop-place-2.ensures.same,
             c.step.ensures.step,
             c.line_at.ensures,
-          ) at c.in_ok-add_opened.ensures));
+          ) at c.in_ok-add_opened.ensures.ok));
     }
 
-pub returns-clause-found : goal.returns-clause-found
-returns-clause-found c =
+pub returns-clause-ok : goal.returns-clause-ok
+returns-clause-ok g c =
     let file = c.args.file.now in
     let events = c.args.events.now in
     let lines = c.args.lines.now in
     let left = none_left c.loop-place.place c.loop-place.file events lines none c.loop-place-test.false in
     rw c.run_events.ensures.steps
-    at (all_events file c.run_events.new.self (happenings_from 0 file events lines) c.args.found.now.items
-    c.loop-place.found.items (rw left at c.loop-place.invariant.found))
+    at (all_events file c.run_events.new.self (happenings_from 0 file events lines) _ _
+    (rw left at c.loop-place.invariant.told))
+
+pub returns-in_err-add_opened-clause-err : goal.returns-in_err-add_opened-clause-err
+returns-in_err-add_opened-clause-err g c =
+    on_err _ (begins c.loop-place.invariant.told.findings _ _ _ c.loop-place.invariant.told.told
+    c.in_err-add_opened.ensures.err)

@@ -4,13 +4,13 @@ use Rattle.pmp_lint.proofs.OpenBetween.{one_publication_more}
 use Rattle.pmp_lint.proofs.open_between.add_open_between.Goals as goal
 
 pub loop-index-preserved : goal.loop-index-preserved
-loop-index-preserved c =
+loop-index-preserved g c =
     let script = c.args.script.now in
     let index = c.loop-index.index in
-    let added = c.in_ok-add_of_publication.ensures in
+    let told = c.in_ok-add_of_publication.ensures in
     let more = file_more script index (search rules) in
     record {
-      file = rw more (rw (c.batch.ensures.events, c.loop-index.invariant.file) at added.file);
-      found = one_publication_more script index _ _ _ c.loop-index.invariant.found
-          (rw more (rw (c.batch.ensures.events, c.lines.ensures, c.loop-index.invariant.file) at added.found));
+      file = rw more (rw (c.batch.ensures.events, c.loop-index.invariant.file) at told.file);
+      told = one_publication_more script index _ _ _ c.loop-index.invariant.told
+          (rw more (rw (c.batch.ensures.events, c.lines.ensures, c.loop-index.invariant.file) at told.ok));
     }

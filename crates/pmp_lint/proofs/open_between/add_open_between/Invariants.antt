@@ -1,12 +1,13 @@
 use Rattle.std.proofs.Common.{◌≡◌}
 use Rattle.pmp_text.specs.Reports.{file_of_script}
-use Rattle.pmp_lint.specs.Adding.{HasAdded}
 use Rattle.pmp_lint.specs.OpenBetween.{AreOpenBetween}
+use Rattle.pmp_lint.specs.Telling.{HasToldSome, telling}
 use Rattle.pmp_lint.proofs.open_between.add_open_between.Given as goal
 
 -- the publications so far
 abbrev pub invariant-loop-index : goal.invariant-loop-index
-invariant-loop-index l = record {
+invariant-loop-index g l = record {
   file : l.file ≡ file_of_script l.script l.index;
-  found : HasAdded (AreOpenBetween l.script l.index) l.fn.found.items l.found.items;
+  told : HasToldSome (AreOpenBetween l.script l.index) (telling (g.S.Sink.text l.fn.out) l.fn.told)
+      (telling (g.S.Sink.text l.out) l.told);
 }

@@ -1,6 +1,3 @@
-use Rattle.pmp_tool.specs.declared.request.Request.TheVariants as request
-use Rattle.pmp_tool.specs.Failures.{unaudited}
-use Rattle.pmp_tool.proofs.Answering.{declined, refused_so}
 use Rattle.pmp_tool.specs.NumberedInputs.{paths_for, traces_for}
 use Rattle.pmp_tool.proofs.answer.answer_request.Goals as goal
 
@@ -28,14 +25,13 @@ pub returns-in-Show-clause-err : goal.returns-in-Show-clause-err
 returns-in-Show-clause-err g c = rw c.in-Show.is
     (c.answer_show.ensures.err (paths_for c.args.naming (g.I.Inputs.paths c.args.inputs.now)))
 
-pub returns-in_err-writes-in-Writes-clause-err : goal.returns-in_err-writes-in-Writes-clause-err
-returns-in_err-writes-in-Writes-clause-err g c =
-    let fault = c.in_err-writes-in-Writes.field-0.0 in
-    let exit = c.from_residual in
-    rw c.in-Writes.is
-    (refused_so _ _ (paths_for c.args.naming (g.I.Inputs.paths c.args.inputs.now)) c.args.script.now
-    request.Writes exit.result (unaudited fault) exit.ensures.1
-    (declined fault c.in_err-writes-in-Writes.ensures.err))
+pub returns-in-Writes-clause-ok : goal.returns-in-Writes-clause-ok
+returns-in-Writes-clause-ok g c = rw c.in-Writes.is
+    (c.answer_writes.ensures.ok (paths_for c.args.naming (g.I.Inputs.paths c.args.inputs.now)))
+
+pub returns-in-Writes-clause-err : goal.returns-in-Writes-clause-err
+returns-in-Writes-clause-err g c = rw c.in-Writes.is
+    (c.answer_writes.ensures.err (paths_for c.args.naming (g.I.Inputs.paths c.args.inputs.now)))
 
 pub returns-in-Lint-clause-ok : goal.returns-in-Lint-clause-ok
 returns-in-Lint-clause-ok g c = rw c.in-Lint.is
@@ -92,3 +88,11 @@ returns-in-PlanOf-clause-ok g c = rw c.in-PlanOf.is
 pub returns-in-PlanOf-clause-err : goal.returns-in-PlanOf-clause-err
 returns-in-PlanOf-clause-err g c = rw c.in-PlanOf.is
     (c.answer_plan_of.ensures.err (paths_for c.args.naming (g.I.Inputs.paths c.args.inputs.now)))
+
+pub returns-in-PolicyFrom-clause-ok : goal.returns-in-PolicyFrom-clause-ok
+returns-in-PolicyFrom-clause-ok g c = rw c.in-PolicyFrom.is
+    (c.answer_policy_from.ensures.ok (paths_for c.args.naming (g.I.Inputs.paths c.args.inputs.now)))
+
+pub returns-in-PolicyFrom-clause-err : goal.returns-in-PolicyFrom-clause-err
+returns-in-PolicyFrom-clause-err g c = rw c.in-PolicyFrom.is
+    (c.answer_policy_from.ensures.err (paths_for c.args.naming (g.I.Inputs.paths c.args.inputs.now)))

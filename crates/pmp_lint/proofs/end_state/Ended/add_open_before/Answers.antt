@@ -1,5 +1,6 @@
-use Rattle.pmp_lint.proofs.Growing.{grown}
+use Rattle.pmp_lint.proofs.Telling.{told_of_one}
 use Rattle.pmp_lint.proofs.end_state.Ended.add_open_before.Goals as goal
 
 pub loop-entry-preserved : goal.loop-entry-preserved
-loop-entry-preserved c = grown _ _ _ _ c.loop-entry.entry (rw c.open_before_locked.ensures at c.in_ok-add.ensures) c.loop-entry.invariant
+loop-entry-preserved g c =
+    told_of_one _ c.loop-entry.entry _ _ _ (rw c.open_before_locked.ensures at c.in_ok-add.ensures.ok) c.loop-entry.invariant

@@ -1,11 +1,11 @@
-use Rattle.std.proofs.Common.{◌≡◌, ◌++◌}
 use Rattle.std.specs.List.{flat_map, range_with_len}
 use Rattle.std.specs.Option.{option_to_list}
 use Rattle.pmp_lint.specs.EndState.{open_before_locked}
+use Rattle.pmp_lint.specs.Telling.{HasTold, telling}
 use Rattle.pmp_lint.proofs.end_state.Ended.add_open_before.Given as goal
 
 -- the entries so far
 abbrev pub invariant-loop-entry : goal.invariant-loop-entry
-invariant-loop-entry l =
-    l.found.items ≡ l.fn.found.items
-    ++ flat_map (λ i. option_to_list (open_before_locked l.self.script.now i)) (range_with_len 0 l.entry)
+invariant-loop-entry g l =
+    HasTold (flat_map (λ i. option_to_list (open_before_locked l.self.script.now i)) (range_with_len 0 l.entry))
+    (telling (g.S.Sink.text l.fn.out) l.fn.told) (telling (g.S.Sink.text l.out) l.told)

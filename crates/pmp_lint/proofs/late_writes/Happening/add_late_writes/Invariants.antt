@@ -1,15 +1,14 @@
-use Rattle.std.proofs.Common.{◌≡◌, ◌++◌}
 use Rattle.std.specs.List.{flat_map, range_with_len}
 use Rattle.std.specs.Option.{option_to_list}
 use Rattle.pmp_lint.specs.LateWrites.{late_write}
+use Rattle.pmp_lint.specs.Telling.{HasTold, telling}
 use Rattle.pmp_lint.proofs.late_writes.Happening.add_late_writes.Given as goal
 
 -- the entries so far
 abbrev pub invariant-loop-entry : goal.invariant-loop-entry
-invariant-loop-entry l =
-    l.found.items ≡ l.fn.found.items
-    ++ flat_map (λ i. option_to_list (late_write (record {
+invariant-loop-entry g l =
+    HasTold (flat_map (λ i. option_to_list (late_write (record {
       before = l.self.before.now;
       event = l.self.event;
       line = l.self.line;
-    }) i)) (range_with_len 0 l.entry)
+    }) i)) (range_with_len 0 l.entry)) (telling (g.S.Sink.text l.fn.out) l.fn.told) (telling (g.S.Sink.text l.out) l.told)

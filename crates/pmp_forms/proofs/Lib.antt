@@ -1,0 +1,4 @@
+pub mod Fields
+pub mod ColumnLists
+pub mod MemberTexts
+pub mod Joining

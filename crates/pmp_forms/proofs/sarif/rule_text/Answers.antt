@@ -1,0 +1,13 @@
+use Rattle.std.proofs.Common.{◌∙◌, refl}
+use Rattle.pmp_forms.proofs.sarif.rule_text.Goals as goal
+
+pub returns : goal.returns
+returns c =
+    c.in_ok-append_all.ensures
+    ∙ rw (
+      c.new-all.ensures.items,
+      c.as_slice.ensures.value,
+      c.in_ok-id.ensures,
+      c.as_slice-2.ensures.value,
+      c.in_ok-description.ensures,
+    ) refl
