@@ -1,5 +1,5 @@
 -- Bytes for no entry of the unit.
-use Rattle.std.proofs.Common.{◌≡◌, ℕ, ◌+◌, ◌-◌, ◌*◌, ◌<◌, Bool, true, false, not, ◌&&◌, ◌==◌, nat_lt}
+use Rattle.std.proofs.Common.{rules, ◌≡◌, ℕ, ◌+◌, ◌-◌, ◌*◌, ◌<◌, Bool, true, false, not, ◌&&◌, ◌==◌, nat_lt}
 use Rattle.std.proofs.Common.{List, length, drop, length-drop, slice_index, refl, sym, ◌∙◌, inl, inr, arith}
 use Rattle.std.specs.Int.{w64, to_le_bytes}
 use Rattle.std.specs.List.{list_any}
@@ -35,10 +35,7 @@ is_some_byte b = not (b == 0)
 
 -- each is false where the other is
 alike : (one other : Bool) → (one ≡ false → other ≡ false) → (other ≡ false → one ≡ false) → one ≡ other
-alike true true h k = refl
-alike false false h k = refl
-alike true false h k = k refl
-alike false true h k = sym (h refl)
+alike one other h k = search rules
 
 -- the first bytes of a register are for entries, so many of them, and the others for none
 abbrev pub AreThere : Profile → (n q first : ℕ) → Type 0

@@ -1,7 +1,7 @@
 -- Whose bytes a configuration register holds, and what it makes of them when it is written.
 use borrow.Author.Tests.{tests}
 use Rattle.std.proofs.Common.{rules, ◌≡◌, ℕ, ◌+◌, ◌-◌, ◌*◌, ◌<◌, ◌≤◌, Bool, true, false, cond, ◌&&◌, nat_le, nat_lt}
-use Rattle.std.proofs.Common.{slice_index, length, arith, refl, sym, ap}
+use Rattle.std.proofs.Common.{slice_index, length, arith, refl, ap}
 use Rattle.std.specs.Int.{w64, to_le_bytes}
 use Rattle.std.proofs.lemmas.Bool.{and_parts, leb-true, ltb-true}
 use Rattle.std.proofs.lemmas.Bool.Decides.{nat_tests}
@@ -69,8 +69,7 @@ module _ (file : RegisterFile) (q place count : ℕ) (count_is : count ≡ bytes
   byte_beside far = rw (none_above file.profile q (4 * q + place) (omega (arith, count_is))) refl
 
 zero_either : (holds : Bool) (byte : ℕ) → byte ≡ 0 → 0 ≡ cond holds byte 0
-zero_either true byte is = sym is
-zero_either false byte is = refl
+zero_either holds byte is = search rules
 
 pub byte_past : (file : RegisterFile) (q i : ℕ) → length file.entries ≤ i → 0 ≡ byte_in file q i
 byte_past file q i past = zero_either (holds_byte_of file.profile q i) _

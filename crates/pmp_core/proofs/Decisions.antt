@@ -1,14 +1,13 @@
 -- The decision by ranges is the manual's, and the manual's is one.
 use Rattle.std.proofs.Common.{◌≡◌, ℕ, suc, ◌+◌, ◌-◌, ◌<◌, ◌≤◌, Bool, true, false, cond, List, [], ◌∷◌, length, Option}
 use Rattle.std.proofs.Common.{Some, None, max, slice_index_or, refl, sym, ap, ◌∙◌, arith, add-zero, below_more, inl}
-use Rattle.std.proofs.Common.{inr}
+use Rattle.std.proofs.Common.{rules, inr}
 use Rattle.std.proofs.lemmas.Bool.{cases_lt, ltb-true, false≢true}
 use Rattle.std.proofs.lemmas.Bool.Decides.{nat_tests}
 use Rattle.std.proofs.lemmas.List.{get_or_past}
 use Rattle.std.proofs.lemmas.List.FromFn.{get_or-map-range_with_len}
 use Rattle.pmp_core.specs.declared.access.Access.{Access}
 use Rattle.pmp_core.specs.declared.access.Kind.{Kind}
-use Rattle.pmp_core.specs.declared.access.Kind.TheVariants.{Fetch, Load, Store}
 use Rattle.pmp_core.specs.declared.decision.Cause.{Cause}
 use Rattle.pmp_core.specs.declared.decision.Cause.TheVariants.{Rule, Split, NoMatch}
 use Rattle.pmp_core.specs.declared.decision.Decision.{Decision}
@@ -135,16 +134,12 @@ module _ (file : RegisterFile) (start end : ℕ) (full : start < end) (small : H
       (omega (arith, length-ranges_of file.profile file.entries)) touches)
 
 refuses : (kind : Kind) → allows nothing kind ≡ false
-refuses Load = refl
-refuses Store = refl
-refuses Fetch = refl
+refuses kind = search rules
 
 decided : (file : RegisterFile) (access : Access) (cause : Cause)
     → IsCause file access.start (access.start + access.length) cause
     → IsDecisionBy file access (allows (rights_by file access.mode cause) access.kind) cause
-decided file access (Rule i) is = (is.0, is.1, refl)
-decided file access (Split i) is = (is.0, is.1, refuses access.kind)
-decided file access NoMatch is = (is, refl)
+decided file access cause is = search (rules, refuses)
 
 pub decided_by_ranges : (file : RegisterFile) (access : Access) → HasAddresses file
     → IsDecision file access (decision_of file access)
@@ -157,13 +152,7 @@ decided_by_ranges file access small =
 -- ---- one decision
 
 pub least_once : (P : ℕ → Type 0) (one other : Option ℕ) → IsLeast P one → IsLeast P other → one ≡ other
-least_once P None None p q = refl
-least_once P None (Some j) p q = absurd (p j q.0)
-least_once P (Some i) None p q = absurd (q i p.0)
-least_once P (Some i) (Some j) p q = elim (cases_lt i j) [
-  | inl lt ↦ absurd (q.1 i lt p.0)
-  | inr le ↦ elim (cases_lt j i) [ inl lt ↦ absurd (p.1 j lt q.0) | inr ge ↦ ap Some (omega arith) ]
-]
+least_once P one other p q = search rules
 
 module _ (file : RegisterFile) (access : Access) where
   pub one_decider : (i j : ℕ) → IsDecider file access (Some i) → IsDecider file access (Some j) → i ≡ j

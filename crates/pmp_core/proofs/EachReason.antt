@@ -7,7 +7,7 @@ use Rattle.std.proofs.lemmas.Bool.{eq-eqb, ne_eqb}
 use Rattle.std.proofs.lemmas.List.Folds.{list_any_at}
 use Rattle.std.proofs.lemmas.List.FromFn.{length-range_with_len, get_or-range_with_len}
 use Rattle.pmp_core.specs.declared.csr.Csr.{Csr}
-use Rattle.pmp_core.specs.declared.csr.Csr.TheVariants.{Cfg, Addr, Mseccfg, Mseccfgh}
+use Rattle.pmp_core.specs.declared.csr.Csr.TheVariants.{Cfg, Addr}
 use Rattle.pmp_core.specs.declared.write_reasons.WriteReason.{WriteReason}
 use Rattle.pmp_core.specs.declared.write_reasons.WriteReason.TheVariants.{Absent, Bits, Frozen, Tor, Reserved, Lockdown}
 use Rattle.pmp_core.specs.declared.write_reasons.WriteReason.TheVariants.{Sticky, Bypass, Grain}
@@ -81,30 +81,15 @@ turned i k other = ne_eqb k i (λ same. false≢true (sym other ∙ eq-eqb i k (
 -- no reason holds for an entry of which the register holds nothing
 pub not_own : (reason : WriteReason) (file : RegisterFile) (csr : Csr) (value i : ℕ) → holds file.profile csr i ≡ false
     → is_entry_reason reason file csr value i ≡ false
-not_own Absent file csr value i other = refl
-not_own Bits file csr value i other = refl
 not_own Frozen file (Cfg q) value i other = rw other (and_right _ false refl)
 not_own Frozen file (Addr k) value i other = rw (turned i k other) (and_right _ false refl)
-not_own Frozen file Mseccfg value i other = and_right _ false refl
-not_own Frozen file Mseccfgh value i other = and_right _ false refl
-not_own Tor file (Cfg q) value i other = refl
+not_own Frozen file csr value i other = and_right _ false refl
 not_own Tor file (Addr k) value i other = rw (turned i k other) (and_right _ false refl)
-not_own Tor file Mseccfg value i other = refl
-not_own Tor file Mseccfgh value i other = refl
 not_own Reserved file (Cfg q) value i other = rw other refl
-not_own Reserved file (Addr k) value i other = refl
-not_own Reserved file Mseccfg value i other = refl
-not_own Reserved file Mseccfgh value i other = refl
 not_own Lockdown file (Cfg q) value i other = rw other refl
-not_own Lockdown file (Addr k) value i other = refl
-not_own Lockdown file Mseccfg value i other = refl
-not_own Lockdown file Mseccfgh value i other = refl
-not_own Sticky file csr value i other = refl
-not_own Bypass file csr value i other = refl
 not_own Grain file (Cfg q) value i other = rw other refl
 not_own Grain file (Addr k) value i other = rw (turned i k other) refl
-not_own Grain file Mseccfg value i other = refl
-not_own Grain file Mseccfgh value i other = refl
+not_own reason file csr value i other = refl
 
 module _ (reason : WriteReason) (file : RegisterFile) (csr : Csr) (value : ℕ) where
   pub none_at_entry : is_some_entry_reason reason file csr value ≡ false → (i : ℕ) → i < length file.entries

@@ -1,5 +1,5 @@
 -- Addresses by the grain.
-use Rattle.std.proofs.Common.{◌≡◌, ℕ, ◌+◌, ◌-◌, ◌*◌, ◌/◌, ◌^◌, ◌<◌, ◌≤◌, false, nat_lt}
+use Rattle.std.proofs.Common.{rules, ◌≡◌, ℕ, ◌+◌, ◌-◌, ◌*◌, ◌/◌, ◌^◌, ◌<◌, ◌≤◌, false, nat_lt}
 use Rattle.std.proofs.Common.{refl, sym, ap, ◌∙◌, arith}
 use Rattle.std.proofs.Math.Nat.{div-eq_of_lt, div-lt_iff_lt-mul, div-mul-le_self, mul-add-div_right, mul-div_cancel}
 use Rattle.std.proofs.Math.Nat.{mul-le-mul_right}
@@ -46,10 +46,7 @@ napot_again grain address =
 
 pub read_again : (grain : ℕ) (matching : AddressMatching) (address : ℕ)
     → read_address grain matching (read_address grain matching address) ≡ read_address grain matching address
-read_again grain Off address = tor_again grain address
-read_again grain Tor address = tor_again grain address
-read_again grain Na4 address = refl
-read_again grain Napot address = napot_again grain address
+read_again grain matching address = search (rules, tor_again, napot_again)
 
 pub read_within : (grain n : ℕ) (matching : AddressMatching) (address : ℕ) → grain - 1 ≤ n → address < 2 ^ n
     → read_address grain matching address < 2 ^ n

@@ -1,23 +1,19 @@
 -- Harts as numbers.
 use borrow.Author.Tests.{tests}
 use Rattle.std.proofs.Common.{rules, ◌≡◌, ℕ, ◌+◌, ◌*◌, ◌/◌, ◌%◌, ◌^◌, ◌≤◌, true, false, ◌==◌, MatchOption, Option, Some, None}
-use Rattle.std.specs.Option.{is_none}
-use Rattle.pmp_core.specs.declared.hart.HartFault.{HartFault}
 use Rattle.std.proofs.Common.{refl, sym, ap, ◌∙◌, inl, inr, arith}
 use Rattle.std.proofs.lemmas.Bool.{cases_Bool, and_parts, or_cases, eqb-true, eq-eqb, ne_eqb, not-true}
 use Rattle.pmp_core.specs.Configuration.{bit_of}
 use Rattle.pmp_core.specs.declared.hart.Profile.{Profile}
 use Rattle.pmp_core.specs.Hart.{IsProfile, hart_fault, profile_with, profile_of}
 use Rattle.pmp_core.specs.declared.size.Size.{Size}
-use Rattle.pmp_core.specs.declared.size.Size.TheVariants.{Sixteen, SixtyFour}
 use Rattle.pmp_core.specs.SavedRegisters.{is_usual, hart_number, spelled_hart, spells_hart, names_hart, saved_hart}
 
 pub usual : (n : ℕ) → n ≤ 64 → IsProfile (profile_with n)
 usual n few = record { few = few; fine = omega arith; wide = omega arith; narrow = omega arith }
 
 pub is_profile_of : (size : Size) → IsProfile (profile_of size)
-is_profile_of Sixteen = usual 16 (omega arith)
-is_profile_of SixtyFour = usual 64 (omega arith)
+is_profile_of size = search (rules, usual)
 
 -- ---- whether there is a hart
 
@@ -28,10 +24,6 @@ pub no_fault : (profile : Profile) → IsProfile profile → hart_fault profile 
 no_fault profile is = search (rules, tests)
 
 -- ---- every number stands for a hart
-
-none_is : (fault : Option HartFault) → is_none fault ≡ true → fault ≡ None
-none_is None h = refl
-none_is (Some f) h = absurd cc
 
 pub is_hart : (number : ℕ) → IsProfile (saved_hart number)
 unfolding saved_hart

@@ -51,12 +51,10 @@ reset_legal profile is = record {
 
 -- no hart has fewer address bits, or more
 most_bits_most : (is_rv32 : Bool) → most_bits is_rv32 ≤ 56
-most_bits_most true = omega arith
-most_bits_most false = omega arith
+most_bits_most is_rv32 = search rules
 
 fewest_bits_fewest : (is_rv32 : Bool) → 32 ≤ fewest_bits is_rv32
-fewest_bits_fewest true = omega arith
-fewest_bits_fewest false = omega arith
+fewest_bits_fewest is_rv32 = search rules
 
 pub wide_bits : (profile : Profile) → IsProfile profile → 32 ≤ profile.address_bits
 wide_bits profile is = omega (arith, is.wide, fewest_bits_fewest profile.is_rv32)
@@ -111,10 +109,7 @@ length-written file Mseccfgh value = refl
 
 -- the hart is kept
 pub profile-written : (file : RegisterFile) (csr : Csr) (value : ℕ) → (written file csr value).profile ≡ file.profile
-profile-written file (Cfg q) value = refl
-profile-written file (Addr i) value = refl
-profile-written file Mseccfg value = refl
-profile-written file Mseccfgh value = refl
+profile-written file csr value = search rules
 
 -- what a legal file has at each place
 abbrev IsLegalEntry : Profile → Bool → Entry → Type 0
@@ -179,18 +174,12 @@ module _ (file : RegisterFile) (legal : IsLegal file) where
 
   -- lockdown that is off after a write was off before it
   was_off : (csr : Csr) (value : ℕ) → (written file csr value).mseccfg.mml ≡ false → file.mseccfg.mml ≡ false
-  was_off (Cfg q) value off = off
-  was_off (Addr j) value off = off
-  was_off Mseccfg value off = search (rules, tests)
-  was_off Mseccfgh value off = off
+  was_off csr value off = search (rules, tests)
 
   -- a hart without Smepmp has no mseccfg, whatever is written
   still_plain : (csr : Csr) (value : ℕ) → file.profile.has_smepmp ≡ false
       → (written file csr value).mseccfg ≡ reset_mseccfg
-  still_plain (Cfg q) value none = legal.plain none
-  still_plain (Addr j) value none = legal.plain none
-  still_plain Mseccfg value none = rw none (legal.plain none)
-  still_plain Mseccfgh value none = legal.plain none
+  still_plain csr value none = search (rules, tests)
 
   pub step_legal : (event : Event) → IsLegal (step file event)
   step_legal Reset = reset_legal file.profile legal.profile

@@ -8,7 +8,6 @@ use Rattle.std.proofs.lemmas.Bool.{and_parts, and_right, cases_lt, false≢true,
 use Rattle.std.proofs.lemmas.List.{get_or_past}
 use Rattle.std.proofs.lemmas.List.Folds.{list_any_at}
 use Rattle.pmp_core.specs.declared.configuration.AddressMatching.{AddressMatching}
-use Rattle.pmp_core.specs.declared.configuration.AddressMatching.TheVariants.{Off, Tor, Na4, Napot}
 use Rattle.pmp_core.specs.declared.csr.Csr.{Csr}
 use Rattle.pmp_core.specs.declared.csr.Csr.TheVariants.{Cfg, Addr, Mseccfg, Mseccfgh}
 use Rattle.pmp_core.specs.Entry.{Entry}
@@ -130,10 +129,7 @@ held_on file i (Write csr value ∷ events) frozen writes =
 
 pub same_bytes : (grain : ℕ) (mode : AddressMatching) (low other address byte : ℕ) → (is_tor mode ≡ true → low ≡ other)
     → MatchesBy grain mode low address byte → MatchesBy grain mode other address byte
-same_bytes grain Off low other address byte same h = h
-same_bytes grain Tor low other address byte same h = rw (← same refl) h
-same_bytes grain Na4 low other address byte same h = h
-same_bytes grain Napot low other address byte same h = h
+same_bytes grain mode low other address byte same h = search rules
 
 held_bytes : (before after : RegisterFile) (i byte : ℕ) → Held before after i
     → Matches after i byte ↔ Matches before i byte

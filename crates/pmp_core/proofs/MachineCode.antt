@@ -1,6 +1,6 @@
 -- Where machine mode executes under lockdown.
 use Rattle.std.proofs.Common.{nat_lt, ◌≡◌, ℕ, ◌≤◌, ◌%◌, ◌-◌, ◌*◌, Bool, true, false, cond, ◌&&◌, List, [], ◌∷◌, fold, length}
-use Rattle.std.proofs.Common.{slice_index, refl, sym, ap, ◌∙◌, inl, inr, arith, get_or-set_same, length-set}
+use Rattle.std.proofs.Common.{rules, slice_index, refl, sym, ap, ◌∙◌, inl, inr, arith, get_or-set_same, length-set}
 use Rattle.std.specs.List.{list_all}
 use Rattle.std.specs.Int.{w64, to_le_bytes}
 use Rattle.std.proofs.Math.ListN.{set}
@@ -38,39 +38,21 @@ is_barred_rule c = is_barred c.locked c.read c.write c.execute
 
 -- machine mode executes by barred rules alone
 executes : (l r w x : Bool) → (lockdown_rights l r w x M).execute ≡ true → is_barred l r w x ≡ true
-executes false false false false h = absurd (false≢true h)
-executes false false false true h = absurd (false≢true h)
-executes false false true false h = absurd (false≢true h)
-executes false false true true h = absurd (false≢true h)
-executes false true false false h = absurd (false≢true h)
-executes false true false true h = absurd (false≢true h)
-executes false true true false h = absurd (false≢true h)
-executes false true true true h = absurd (false≢true h)
-executes true false false false h = absurd (false≢true h)
-executes true false false true h = refl
-executes true false true false h = refl
-executes true false true true h = refl
-executes true true false false h = absurd (false≢true h)
-executes true true false true h = refl
-executes true true true false h = absurd (false≢true h)
-executes true true true true h = absurd (false≢true h)
+executes l r w x h = search rules
 
 barred_locked : (l r w x : Bool) → is_barred l r w x ≡ true → l ≡ true
-barred_locked true r w x h = refl
-barred_locked false r w x h = absurd (false≢true h)
+barred_locked l r w x h = search rules
 
 -- and not where no entry matches
 none_by_default : (some mmwp : Bool) → (default_rights_by some true mmwp M).execute ≡ true → ⊥
-none_by_default some true h = false≢true h
-none_by_default some false h = false≢true h
+none_by_default some mmwp h = search rules
 
 -- ---- one write adds no barred rule
 
 -- what a byte leaves is a barred rule only where one was there
 kept_barred : (old new : Configuration) (barred : Bool) → is_barred_rule new ≡ barred
     → is_barred_rule (cond barred old new) ≡ true → is_barred_rule old ≡ true
-kept_barred old new true e h = h
-kept_barred old new false e h = absurd (false≢true (sym e ∙ h))
+kept_barred old new barred e h = search rules
 
 stored_barred : (grain : ℕ) (old : Configuration) (byte : ℕ) → is_barred_rule (stored_over grain true false old byte) ≡ true
     → is_barred_rule old ≡ true

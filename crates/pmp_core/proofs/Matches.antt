@@ -1,16 +1,14 @@
 -- An entry matches the bytes of its range.
-use Rattle.std.proofs.Common.{◌≡◌, ℕ, suc, ◌+◌, ◌*◌, ◌/◌, ◌^◌, ◌<◌, ◌≤◌, ◌↔◌, length, sym, ◌∙◌, arith}
+use Rattle.std.proofs.Common.{rules, ◌≡◌, ℕ, suc, ◌+◌, ◌*◌, ◌/◌, ◌^◌, ◌<◌, ◌≤◌, ◌↔◌, length, sym, ◌∙◌, arith}
 use Rattle.std.proofs.Common.{add-one, refl}
 use Rattle.std.specs.Int.{trailing_ones, w64}
 use Rattle.std.proofs.lemmas.List.{get_or_past}
 use Rattle.std.proofs.Math.Pow.{pow_pos}
 use Rattle.pmp_core.specs.declared.configuration.AddressMatching.{AddressMatching}
-use Rattle.pmp_core.specs.declared.configuration.AddressMatching.TheVariants.{Off, Tor, Na4, Napot}
 use Rattle.pmp_core.specs.declared.register_write.TheConstants.{WORD_ADDRESSES}
 use Rattle.pmp_core.specs.RegisterFile.{RegisterFile, reset_entry, HasAddresses}
 use Rattle.pmp_core.specs.Matching.{InNapot, MatchesBy, Matches}
 use Rattle.pmp_core.specs.Ranges.{IsInRange, napot_range, range_by, range_on, range_of}
-use Rattle.pmp_core.specs.Grain.{napot_address}
 use Rattle.pmp_core.proofs.Grains.{napot_below}
 use Rattle.pmp_core.proofs.Places.{no_range}
 use Rattle.pmp_core.proofs.Napot.{spelled_once, spelled_by_ones}
@@ -35,12 +33,7 @@ from_napot address byte small h =
 
 matched_by : (grain : ℕ) (mode : AddressMatching) (low address byte : ℕ) → grain ≤ 10 → address < WORD_ADDRESSES
     → MatchesBy grain mode low address byte ↔ IsInRange (range_by grain mode low address) byte
-matched_by grain Off low address byte fine small = (λ h. absurd h, λ h. omega arith)
-matched_by grain Tor low address byte fine small = (λ h. h, λ h. h)
-matched_by grain Na4 low address byte fine small = (λ h. h, λ h. h)
-matched_by grain Napot low address byte fine small =
-    let few = napot_below grain address fine small in
-    (in_napot (napot_address grain address) byte few, from_napot (napot_address grain address) byte few)
+matched_by grain mode low address byte fine small = search (rules, napot_below, in_napot, from_napot)
 
 pub matches_range : (file : RegisterFile) (i byte : ℕ) → HasAddresses file
     → Matches file i byte ↔ IsInRange (range_of file i) byte

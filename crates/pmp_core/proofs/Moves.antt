@@ -1,6 +1,6 @@
 -- What two register files decide alike.
 use borrow.Author.Tests.{tests}
-use Rattle.std.proofs.Common.{◌≡◌, ◌≢◌, ℕ, zero, suc, ◌+◌, ◌-◌, ◌*◌, ◌<◌, ◌≤◌, Option, Some, None, length, sym, ap, ◌∙◌, inl, inr}
+use Rattle.std.proofs.Common.{◌≡◌, ◌≢◌, ℕ, zero, suc, ◌+◌, ◌-◌, ◌*◌, ◌<◌, ◌≤◌, Option, None, length, sym, ap, ◌∙◌, inl, inr}
 use Rattle.std.proofs.Common.{arith, rules, ◌==◌, Bool, ◌&&◌, eqb, false, not, refl, true}
 use Rattle.std.specs.Bool.{beq}
 use Rattle.std.specs.Cmp.{booleans_Decides}
@@ -42,19 +42,14 @@ use Rattle.pmp_core.proofs.StoredBytes.{configuration_back}
 -- ---- spans
 
 pub joined_left : (one other : Option Span) (byte : ℕ) → IsMoved one byte → IsMoved (joined one other) byte
-joined_left None other byte here = absurd here
-joined_left (Some one) None byte here = here
-joined_left (Some one) (Some other) byte here = (omega arith, omega arith)
+joined_left one other byte here = search rules
 
 pub joined_right : (one other : Option Span) (byte : ℕ) → IsMoved other byte → IsMoved (joined one other) byte
-joined_right None other byte here = here
-joined_right (Some one) None byte here = absurd here
-joined_right (Some one) (Some other) byte here = (omega arith, omega arith)
+joined_right one other byte here = search rules
 
 span_has : (file : RegisterFile) (i byte : ℕ) (span : Option Span) → IsSpan file i span → byte < ADDRESS_LIMIT
     → Matches file i byte → IsMoved span byte
-span_has file i byte None is inside matches = is byte inside matches
-span_has file i byte (Some span) is inside matches = (is.2 byte inside).0 matches
+span_has file i byte span is inside matches = search rules
 
 -- ---- entries
 
@@ -110,13 +105,6 @@ module _ (one other : RegisterFile) (i : ℕ) where
           (λ matches. there.1 (rw range at (here.0 matches))),
           (λ matches. here.1 (rw (← range) at (there.0 matches))),
         ),
-  )
-
-  pub kept_entry : other.profile ≡ one.profile → entry_at other.entries i ≡ entry_at one.entries i
-      → low_address other.entries i ≡ low_address one.entries i → IsSameEntry one other i
-  kept_entry hart entry low = (
-    ap (λ (e : Entry). e.configuration) entry,
-    λ byte. rw (hart, entry, low) (λ matches. matches, λ matches. matches),
   )
 
   pub moved_within : (before now : Option Span) → IsSpan one i before → IsSpan other i now
@@ -191,10 +179,6 @@ module _ (one other : RegisterFile) (legal : IsLegal one) (too : IsLegal other) 
 span_seen : (file : RegisterFile) (i : ℕ) → HasAddresses file → IsSpan file i (span_in (range_of file i))
 unfolding span_of
 span_seen file i addresses = is_span file i addresses
-
-joined_none : (one : Option Span) → joined one None ≡ one
-joined_none None = refl
-joined_none (Some one) = refl
 
 module _ (one other : RegisterFile) where
   -- an entry that is kept as it is

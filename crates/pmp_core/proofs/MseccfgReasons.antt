@@ -1,7 +1,7 @@
 -- mseccfg is stored as written exactly where there is no reason.
 use borrow.Author.Tests.{tests}
-use Rattle.std.proofs.Common.{rules, ◌≡◌, ℕ, zero, suc, ◌+◌, ◌*◌, ◌/◌, ◌%◌, ◌<◌, Bool, true, false, not}
-use Rattle.std.proofs.Common.{◌&&◌, ◌||◌, ◌==◌, refl, sym, ap, ◌∙◌, inl, inr, arith}
+use Rattle.std.proofs.Common.{rules, ◌≡◌, ℕ, ◌+◌, ◌*◌, ◌/◌, ◌%◌, ◌<◌, Bool, true, false, not}
+use Rattle.std.proofs.Common.{◌&&◌, ◌||◌, ◌==◌, refl, sym, ap, ◌∙◌, inl, inr}
 use Rattle.std.proofs.lemmas.Bool.{cases_Bool, and_right, or_from}
 use Rattle.pmp_core.specs.declared.csr.Csr.TheVariants.{Mseccfg, Mseccfgh}
 use Rattle.pmp_core.specs.declared.write_reasons.WriteReason.TheVariants.{Frozen, Tor, Reserved, Lockdown, Grain}
@@ -15,37 +15,24 @@ use Rattle.pmp_core.proofs.EachReason.{none_at_entries, HasNone}
 use Rattle.pmp_core.proofs.StoredBytes.{not_same}
 
 bit_is : (r : ℕ) → r < 2 → bit_of (r == 1) ≡ r
-bit_is zero low = refl
-bit_is (suc zero) low = refl
-bit_is (suc (suc r)) low = absurd (omega arith)
+bit_is r low = search rules
 
 -- MML and MMWP stay where they are set, and RLB doesn't rise over a lock: without a reason each is as written
 stays : (before new : Bool) → (before && not new) ≡ false → (before || new) ≡ new
-stays true true h = refl
-stays false new h = refl
-stays true false h = absurd cc
+stays before new h = search rules
 
 rises : (before any new : Bool) → (new && not before && any) ≡ false → (new && (before || not any)) ≡ new
-rises before any false h = refl
-rises true any true h = refl
-rises false false true h = refl
-rises false true true h = absurd cc
+rises before any new h = search rules
 
 -- and a bit that is as written has no reason
 was_kept : (before new : Bool) → (before || new) ≡ new → (before && not new) ≡ false
-was_kept true true h = refl
-was_kept false new h = refl
-was_kept true false h = absurd cc
+was_kept before new h = search rules
 
 has_risen : (before any new : Bool) → (new && (before || not any)) ≡ new → (new && not before && any) ≡ false
-has_risen before any false h = refl
-has_risen true any true h = refl
-has_risen false false true h = refl
-has_risen false true true h = absurd cc
+has_risen before any new h = search rules
 
 bit_low : (b : Bool) → bit_of b < 2
-bit_low true = omega arith
-bit_low false = omega arith
+bit_low b = search rules
 
 bits_of_value : (a b c : Bool) (value : ℕ) → bit_of a + 2 * bit_of b + 4 * bit_of c ≡ value
     → (a ≡ (value % 2 == 1)) × (b ≡ (value / 2 % 2 == 1)) × (c ≡ (value / 4 % 2 == 1)) × (value / 8 ≡ 0)

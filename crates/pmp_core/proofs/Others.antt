@@ -1,7 +1,7 @@
 -- What a write leaves alone.
-use Rattle.std.proofs.Common.{◌≡◌, ◌≢◌, ◌↔◌, ℕ, suc, ◌≤◌, ◌==◌, ◌⊎◌, Bool, true, false, ◌&&◌, length}
+use Rattle.std.proofs.Common.{rules, ◌≡◌, ◌≢◌, ◌↔◌, ℕ, suc, ◌≤◌, ◌==◌, ◌⊎◌, Bool, true, false, ◌&&◌, length}
 use Rattle.std.proofs.Common.{Option, Some, None, refl, sym, ap, ◌∙◌, inl, inr, arith}
-use Rattle.std.proofs.lemmas.Bool.{cases_lt, cases_Bool, cond-false, eqb-false, false≢true, or_parts}
+use Rattle.std.proofs.lemmas.Bool.{cases_lt, cases_Bool, cond-false, eqb-false, or_parts}
 use Rattle.std.proofs.lemmas.List.{get_or_past}
 use Rattle.pmp_core.specs.declared.access.Access.{Access}
 use Rattle.pmp_core.specs.declared.csr.Csr.{Csr}
@@ -23,8 +23,7 @@ use Rattle.pmp_core.proofs.Locks.{configured_address, low_kept, other_address, s
 -- ---- entries
 
 not_both : (a b : Bool) → (a && b) ≡ false → b ≡ true → a ≡ false
-not_both true b none whole = absurd (false≢true (sym none ∙ whole))
-not_both false b none whole = refl
+not_both a b none whole = search rules
 
 module _ (file : RegisterFile) (value : ℕ) where
   past_same : (csr : Csr) (i : ℕ) → length file.entries ≤ i
@@ -67,10 +66,7 @@ module _ (file : RegisterFile) (value : ℕ) where
   low_same Mseccfgh i none tor = refl
 
   pub holds_none : (csr : Csr) (i : ℕ) → may_move file csr i ≡ false → holds file.profile csr i ≡ false
-  holds_none (Cfg q) i none = none
-  holds_none (Addr j) i none = (or_parts (i == j) _ none).0
-  holds_none Mseccfg i none = refl
-  holds_none Mseccfgh i none = refl
+  holds_none csr i none = search (rules, or_parts)
 
   pub bytes_kept : (csr : Csr) (i byte : ℕ) → may_move file csr i ≡ false
       → Matches (written file csr value) i byte ↔ Matches file i byte
@@ -130,10 +126,7 @@ module _ (one other : RegisterFile) (mseccfg : other.mseccfg ≡ one.mseccfg)
 
 pub mseccfg_kept : (file : RegisterFile) (csr : Csr) (value : ℕ) → csr ≢ Mseccfg
     → (written file csr value).mseccfg ≡ file.mseccfg
-mseccfg_kept file (Cfg q) value other = refl
-mseccfg_kept file (Addr j) value other = refl
-mseccfg_kept file Mseccfg value other = absurd (other refl)
-mseccfg_kept file Mseccfgh value other = refl
+mseccfg_kept file csr value other = search rules
 
 pub others_law : OthersLaw
 others_law file csr value = record {

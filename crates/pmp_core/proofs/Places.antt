@@ -1,6 +1,6 @@
 -- Lists of entries and of ranges, place by place.
-use Rattle.std.proofs.Common.{◌≡◌, ℕ, zero, suc, ◌+◌, ◌<◌, Bool, false, List, [], ◌∷◌, length, map, get_or, slice_index_or}
-use Rattle.std.proofs.Common.{refl, ap, arith}
+use Rattle.std.proofs.Common.{◌≡◌, ℕ, suc, ◌+◌, ◌<◌, Bool, false, List, [], ◌∷◌, length, map, get_or, slice_index_or}
+use Rattle.std.proofs.Common.{rules, refl, arith}
 use Rattle.std.specs.List.{range_with_len, list_any}
 use Rattle.std.proofs.lemmas.Bool.{or_from}
 use Rattle.std.proofs.lemmas.List.FromFn.{fill_by_all, length-map-range_with_len, get_or-map-range_with_len}
@@ -15,12 +15,10 @@ abbrev pub no_range : ByteRange
 no_range = record { start = 0; end = 0 }
 
 pub low_after : (entries : List Entry) (i k : ℕ) → k + 1 ≡ i → low_address entries i ≡ (entry_at entries k).address
-low_after entries zero k next = absurd (omega arith)
-low_after entries (suc j) k next = let same : j ≡ k = omega arith in ap (λ (n : ℕ). (entry_at entries n).address) same
+low_after entries i k next = search rules
 
 pub low_first : (entries : List Entry) (i : ℕ) → i < 1 → low_address entries i ≡ 0
-low_first entries zero first = refl
-low_first entries (suc j) first = absurd (omega arith)
+low_first entries i first = search rules
 
 pub ruleset low_rules = (low_after, low_first)
 

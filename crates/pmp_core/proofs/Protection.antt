@@ -104,8 +104,7 @@ decided_the_same file i events held writes mml access decided decision =
 -- ---- where lockdown rises
 
 not_given : (fewer more : Bool) → (IsTrue fewer → IsTrue more) → more ≡ false → fewer ≡ false
-not_given true more gives none = absurd (false≢true (sym none ∙ gives refl))
-not_given false more gives none = refl
+not_given fewer more gives none = search rules
 
 fewer_by_mml : FewerRightsLaw → (c : Configuration) → (one other : Bool)
     → (one ≡ true → other ≡ true) → (one ≡ false → is_reserved c ≡ false) → (mode : Mode) (kind : Kind)

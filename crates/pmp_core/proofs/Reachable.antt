@@ -6,7 +6,7 @@ use Rattle.std.proofs.Math.Nat.{mod-eq_of_lt}
 use Rattle.std.proofs.Common.{List, [], ◌∷◌, ◌++◌, length, map, fold, slice_index, refl, sym, ap, ◌∙◌, inl, inr, arith}
 use Rattle.std.specs.List.{range_with_len}
 use Rattle.std.specs.Int.{w64, to_le_bytes}
-use Rattle.std.proofs.lemmas.Bool.{cases_Bool, cases_lt, false≢true, le-ltb, lt-ltb, ltb-true, or_parts}
+use Rattle.std.proofs.lemmas.Bool.{cases_Bool, cases_lt, le-ltb, lt-ltb, ltb-true, or_parts}
 use Rattle.std.proofs.lemmas.Bool.Decides.{nat_tests}
 use Rattle.std.proofs.lemmas.List.{get_or_past, length-replicate}
 use Rattle.std.proofs.lemmas.List.Sums.{fold-append}
@@ -39,29 +39,18 @@ settled : (mml mmwp rlb is_any : Bool)
     → mseccfg_written (record { mml = mml; mmwp = mmwp; rlb = true }) is_any
     (mseccfg_value (record { mml = mml; mmwp = mmwp; rlb = rlb }))
     ≡ record { mml = mml; mmwp = mmwp; rlb = rlb }
-settled false false false is_any = refl
-settled false false true is_any = refl
-settled false true false is_any = refl
-settled false true true is_any = refl
-settled true false false is_any = refl
-settled true false true is_any = refl
-settled true true false is_any = refl
-settled true true true is_any = refl
+settled mml mmwp rlb is_any = search (rules, tests)
 
 opened : (mml mmwp : Bool)
     → mseccfg_written (record { mml = false; mmwp = false; rlb = false }) false
     (mseccfg_value (record { mml = mml; mmwp = mmwp; rlb = true }))
     ≡ record { mml = mml; mmwp = mmwp; rlb = true }
-opened false false = refl
-opened false true = refl
-opened true false = refl
-opened true true = refl
+opened mml mmwp = search (rules, tests)
 
 -- ---- whose bytes the registers 2k and 2k + 1 have
 
 or_false_right : (a b : Bool) → (a || b) ≡ true → b ≡ false → a ≡ true
-or_false_right true b is none = refl
-or_false_right false b is none = absurd (false≢true (sym none ∙ is))
+or_false_right a b is none = search (rules, tests)
 
 -- on RV32 each has four bytes, and on RV64 the first has eight and the other none
 module _ (profile : Profile) (k i : ℕ) where

@@ -1,4 +1,5 @@
 -- A write has no reason exactly where it is stored as written.
+use Rattle.std.proofs.Common.{rules}
 use Rattle.std.proofs.Common.{◌≡◌, ℕ, ◌+◌, ◌*◌, ◌^◌, ◌<◌, Bool, true, false, cond, List, [], ◌∷◌, map, refl, sym, ap, arith}
 use Rattle.std.specs.List.{filter}
 use Rattle.pmp_core.specs.declared.csr.Csr.{Csr}
@@ -37,8 +38,7 @@ write_reasons_law file legal csr value small = (
 )
 
 no_bit : (b : Bool) → bit_of b ≡ 0 → b ≡ false
-no_bit true e = absurd (omega arith)
-no_bit false e = refl
+no_bit b e = search rules
 
 -- a sum of bits is zero exactly where none is set
 none_set : {X : Type 0} (p : X → Bool) (xs : List X) → filter p xs ≡ [] → bits_of (map p xs) ≡ 0

@@ -1,5 +1,5 @@
 -- Registers saved and restored.
-use Rattle.std.proofs.Common.{◌≡◌, ◌≢◌, ℕ, ◌+◌, ◌%◌, ◌<◌, ◌≤◌, Bool, true, false, List, length, map, set}
+use Rattle.std.proofs.Common.{rules, ◌≡◌, ◌≢◌, ℕ, ◌+◌, ◌%◌, ◌<◌, ◌≤◌, Bool, true, false, List, length, map, set}
 use Rattle.std.proofs.Common.{cond, replicate, get_or-set_other, get_or-set_same, length-set}
 use Rattle.std.proofs.Math.Nat.{mod-lt, mod-eq_of_lt}
 use Rattle.std.proofs.Common.{slice_index, refl, sym, ap, ◌∙◌, inl, inr, arith}
@@ -117,14 +117,7 @@ restored_zero = refl
 
 pub fields_back : (a b c : Bool) → mseccfg_fields (mseccfg_value (record { mml = a; mmwp = b; rlb = c }))
     ≡ record { mml = a; mmwp = b; rlb = c }
-fields_back false false false = refl
-fields_back false false true = refl
-fields_back false true false = refl
-fields_back false true true = refl
-fields_back true false false = refl
-fields_back true false true = refl
-fields_back true true false = refl
-fields_back true true true = refl
+fields_back a b c = search rules
 
 -- a legal configuration is stored as it is
 pub stored_as_is : (mml : Bool) (old c : Configuration) → (mml ≡ false → is_reserved c ≡ false)

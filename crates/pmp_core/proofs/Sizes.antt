@@ -1,6 +1,6 @@
 -- Writes to the first n entries leave files of n entries and of more that are alike, event by event.
 use borrow.Author.Tests.{tests}
-use Rattle.std.proofs.Common.{rules, ◌≡◌, ◌≢◌, ◌↔◌, ℕ, suc, ◌%◌, ◌<◌, ◌≤◌, Bool, true, false, cond, ◌||◌}
+use Rattle.std.proofs.Common.{rules, ◌≡◌, ◌≢◌, ◌↔◌, ℕ, suc, ◌%◌, ◌<◌, ◌≤◌, Bool, true, false, cond}
 use Rattle.std.proofs.Common.{List, [], ◌∷◌, fold, length, get_or, refl, sym, ap, ◌∙◌, inl, inr}
 use Rattle.std.proofs.Common.{arith}
 use Rattle.std.specs.List.{list_all, list_any}
@@ -27,7 +27,6 @@ use Rattle.pmp_core.specs.SizeLaw.{writes_first, SizeLaw}
 use Rattle.pmp_core.specs.Ranges.{decision_of}
 use Rattle.pmp_core.proofs.Configuring.{high_of, low_of, most_bytes}
 use Rattle.pmp_core.proofs.Decisions.{decided_by_ranges, one_decision}
-use Rattle.pmp_core.proofs.Grains.{selectable_other}
 use Rattle.pmp_core.proofs.Legal.{reset_at, configured_place, length-written, length-step, profile-step, legal_law}
 use Rattle.pmp_core.proofs.Legal.{legal_addresses}
 use Rattle.pmp_core.proofs.Locks.{other_address, low_kept}
@@ -87,9 +86,7 @@ reset_room n hart many = record {
 -- a zero byte leaves a reset entry as it is
 zero_over_reset : (grain : ℕ) (mml rlb : Bool)
     → stored_over grain mml rlb reset_entry.configuration 0 ≡ reset_entry.configuration
-zero_over_reset grain false rlb = selectable_other grain reset_entry.configuration refl
-zero_over_reset grain true false = selectable_other grain reset_entry.configuration refl
-zero_over_reset grain true true = selectable_other grain reset_entry.configuration refl
+zero_over_reset grain mml rlb = search (rules, tests)
 
 module _ (n q value : ℕ) (named : writes_first n (Write (Cfg q) value) ≡ true) where
   zero_byte : (profile : Profile) (i : ℕ) → n ≤ i → holds_byte_of profile q i ≡ true → byte_for q value i ≡ 0
@@ -136,12 +133,9 @@ own_address_written file j value inside = search (rules, tests)
 any_alike : {X : Type 0} (p : X → Bool) (d : X) → p d ≡ false → (xs ys : List X)
     → ((i : ℕ) → get_or xs i d ≡ get_or ys i d) → list_any p xs ≡ list_any p ys
 any_alike p d none [] [] same = refl
-any_alike p d none [] (y ∷ ys) same =
-    rw (← same 0, none) (any_alike p d none [] ys (λ i. same (suc i)))
-any_alike p d none (x ∷ xs) [] same =
-    rw (same 0, none) (any_alike p d none xs [] (λ i. same (suc i)))
-any_alike p d none (x ∷ xs) (y ∷ ys) same =
-    rw (same 0) (ap (λ (rest : Bool). p y || rest) (any_alike p d none xs ys (λ i. same (suc i))))
+any_alike p d none [] (y ∷ ys) same = rw (← same 0, none) (any_alike p d none [] ys (λ i. same (suc i)))
+any_alike p d none (x ∷ xs) [] same = rw (same 0, none) (any_alike p d none xs [] (λ i. same (suc i)))
+any_alike p d none (x ∷ xs) (y ∷ ys) same = rw (same 0, any_alike p d none xs ys (λ i. same (suc i))) refl
 
 module _ (n : ℕ) (one other : RegisterFile) (alike : Alike n one other) where
   low_alike : (i : ℕ) → low_address one.entries i ≡ low_address other.entries i

@@ -5,9 +5,7 @@ use Rattle.std.proofs.Common.{inl, inr}
 use Rattle.std.specs.List.{list_all}
 use Rattle.std.proofs.lemmas.Bool.{and_parts, false≢true, or_cases, or_left, or_right}
 use Rattle.pmp_core.specs.declared.access.Kind.{Kind}
-use Rattle.pmp_core.specs.declared.access.Kind.TheVariants.{Fetch, Load, Store}
 use Rattle.pmp_core.specs.declared.access.Mode.{Mode}
-use Rattle.pmp_core.specs.declared.access.Mode.TheVariants.{M, S, U}
 use Rattle.pmp_core.specs.declared.csr.Csr.TheVariants.{Cfg, Addr, Mseccfg, Mseccfgh}
 use Rattle.pmp_core.specs.Entry.{Entry}
 use Rattle.pmp_core.specs.declared.event.Event.{Event}
@@ -17,7 +15,7 @@ use Rattle.pmp_core.specs.Mseccfg.{mseccfg_written}
 use Rattle.pmp_core.specs.RegisterFile.{RegisterFile, entry_at, is_frozen}
 use Rattle.pmp_core.specs.RegisterValue.{register_value}
 use Rattle.pmp_core.specs.RegisterWrite.{is_any_locked, is_tor, step, written}
-use Rattle.pmp_core.specs.Rights.{allows, default_rights_by, for_mode, has_entries, nothing}
+use Rattle.pmp_core.specs.Rights.{allows, default_rights_by, has_entries}
 use Rattle.pmp_core.specs.Histories.{is_write}
 use Rattle.pmp_core.specs.StickyLaw.{StickyLaw, FrozenAddressLaw}
 use Rattle.pmp_core.proofs.Legal.{length-written}
@@ -52,19 +50,8 @@ mmwp_stays : (file : RegisterFile) (events : List Event) → list_all is_write e
     → file.mseccfg.mmwp ≡ true → (fold step file events).mseccfg.mmwp ≡ true
 mmwp_stays = bit_stays (λ m. m.mmwp) (λ before is_any value. or_left before.mmwp _)
 
-no_right : (kind : Kind) → allows nothing kind ≡ false
-no_right Fetch = refl
-no_right Load = refl
-no_right Store = refl
-
-nothing_open : (mode : Mode) (kind : Kind) → allows (for_mode nothing nothing mode) kind ≡ false
-nothing_open M = no_right
-nothing_open S = no_right
-nothing_open U = no_right
-
 none_open : (mml : Bool) (mode : Mode) (kind : Kind) → allows (default_rights_by true mml true mode) kind ≡ false
-none_open true = nothing_open
-none_open false = nothing_open
+none_open mml mode kind = search rules
 
 -- writes leave as many entries
 pub length-writes : (file : RegisterFile) (events : List Event) → list_all is_write events ≡ true

@@ -4,7 +4,6 @@ use Rattle.std.proofs.Common.{rules, ◌≡◌, ℕ, ◌+◌, ◌*◌, ◌/◌, 
 use Rattle.std.proofs.Common.{nat_lt, refl, sym, ap, ◌∙◌, arith}
 use Rattle.std.proofs.lemmas.Bool.{agree_below_at, false≢true, not-true, not-false, eqb-true, eq-eqb, and_parts}
 use Rattle.pmp_core.specs.declared.configuration.AddressMatching.{AddressMatching}
-use Rattle.pmp_core.specs.declared.configuration.AddressMatching.TheVariants.{Off, Tor, Na4, Napot}
 use Rattle.pmp_core.specs.Configuration.{Configuration, configuration_of, byte_of, bit_of, field_of, matching_of, is_reserved}
 use Rattle.pmp_core.specs.Grain.{is_na4, selectable}
 use Rattle.pmp_core.specs.RegisterWrite.{without_reserved, admitted}
@@ -20,18 +19,13 @@ is_barred_byte byte =
     is_barred new.locked new.read new.write new.execute
 
 pub bit_le : (b : Bool) → bit_of b ≤ 1
-bit_le true = omega arith
-bit_le false = omega arith
+bit_le b = search rules
 
 pub bit_back : (b : Bool) → (bit_of b == 1) ≡ b
-bit_back true = refl
-bit_back false = refl
+bit_back b = search rules
 
 pub field_le : (m : AddressMatching) → field_of m ≤ 3
-field_le Off = omega arith
-field_le Tor = omega arith
-field_le Na4 = omega arith
-field_le Napot = omega arith
+field_le m = search rules
 
 parts_plain : (l f x w r : ℕ) → l ≤ 1 → f ≤ 3 → x ≤ 1 → w ≤ 1 → r ≤ 1
     → ((128 * l + 8 * f + 4 * x + 2 * w + r) / 32 % 4 ≡ 0) × (128 * l + 8 * f + 4 * x + 2 * w + r < 256)
@@ -50,10 +44,7 @@ parts_back : (l f x w r : ℕ) → l ≤ 1 → f ≤ 3 → x ≤ 1 → w ≤ 1 �
 parts_back l f x w r hl hf hx hw hr = (omega arith, omega arith, omega arith, omega arith, omega arith)
 
 matching_back : (matching : AddressMatching) → matching_of (field_of matching) ≡ matching
-matching_back Off = refl
-matching_back Tor = refl
-matching_back Na4 = refl
-matching_back Napot = refl
+matching_back matching = search rules
 
 pub configuration_back : (c : Configuration) → configuration_of (byte_of c) ≡ c
 configuration_back c =
@@ -117,8 +108,7 @@ same_from_not : (a b : ℕ) → not (a == b) ≡ false → a ≡ b
 same_from_not a b h = eqb-true a b (not-false (a == b) h)
 
 pub and_true : (b : Bool) → (b && true) ≡ false → b ≡ false
-and_true true h = h
-and_true false h = h
+and_true b h = search rules
 
 pub not_same : (a b : ℕ) → a ≡ b → not (a == b) ≡ false
 not_same a b h = rw (eq-eqb a b h) refl

@@ -1,5 +1,5 @@
 -- The eight bytes of a word.
-use Rattle.std.proofs.Common.{◌≡◌, ℕ, zero, suc, ◌<◌, ◌^◌, map, get_or, sym, ap, ◌∙◌, inl, inr, arith, refl}
+use Rattle.std.proofs.Common.{rules, ◌≡◌, ℕ, zero, suc, ◌<◌, ◌^◌, map, get_or, sym, ap, ◌∙◌, inl, inr, arith, refl}
 use Rattle.std.specs.Int.{w64, byte_at, bytes_low_first, to_le_bytes, from_le_bytes}
 use Rattle.std.specs.List.{range_with_len}
 use Rattle.std.proofs.lemmas.Bool.{cases_lt}
@@ -12,8 +12,7 @@ abbrev pub byte : (value j : ℕ) → ℕ
 byte value j = get_or (to_le_bytes w64 value) j 0
 
 byte_at_small : (i value : ℕ) → byte_at i value < 256
-byte_at_small zero value = omega arith
-byte_at_small (suc i) value = omega arith
+byte_at_small i value = search rules
 
 bytes_small : (i k value j : ℕ) → get_or (bytes_low_first i k value) j 0 < 256
 bytes_small i zero value j = omega arith

@@ -1,5 +1,5 @@
 -- Writes that give the same bytes on RV64 and on RV32 leave the same registers.
-use Rattle.std.proofs.Common.{◌≡◌, ℕ, zero, suc, ◌+◌, ◌-◌, ◌*◌, ◌/◌, ◌%◌, ◌^◌, ◌<◌, true, false}
+use Rattle.std.proofs.Common.{rules, ◌≡◌, ℕ, zero, suc, ◌+◌, ◌-◌, ◌*◌, ◌/◌, ◌%◌, ◌^◌, ◌<◌, true, false}
 use Rattle.std.proofs.Common.{List, [], ◌∷◌, fold, length, map, slice_index, refl, sym, ap, ◌∙◌, inl, inr, arith, subst}
 use Rattle.std.specs.Int.{w64, to_le_bytes}
 use Rattle.std.specs.List.{flat_map, range_with_len}
@@ -25,11 +25,7 @@ use Rattle.pmp_core.proofs.Places.{entries_by}
 
 low_byte : (value j : ℕ) → j < 4
     → slice_index (to_le_bytes w64 (value % 2 ^ 32)) j ≡ slice_index (to_le_bytes w64 value) j
-low_byte value zero near = omega arith
-low_byte value (suc zero) near = omega arith
-low_byte value (suc (suc zero)) near = omega arith
-low_byte value (suc (suc (suc zero))) near = omega arith
-low_byte value (suc (suc (suc (suc j)))) near = absurd (omega arith)
+low_byte value j near = search rules
 
 high_byte : (value j : ℕ) → j < 4
     → slice_index (to_le_bytes w64 (value / 2 ^ 32)) j ≡ slice_index (to_le_bytes w64 value) (j + 4)

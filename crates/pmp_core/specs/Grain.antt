@@ -22,10 +22,8 @@ read_address grain Na4 address = address
 read_address grain Napot address = napot_address grain address
 
 abbrev pub is_na4 : AddressMatching → Bool
-is_na4 Off = false
-is_na4 Tor = false
 is_na4 Na4 = true
-is_na4 Napot = false
+is_na4 _ = false
 
 -- NA4 can't be chosen if G isn't 0: the entry is stored as OFF
 abbrev pub selectable : (grain : ℕ) → Configuration → Configuration

@@ -2,7 +2,7 @@
 use Rattle.std.specs.Prelude.{◌≡◌, ◌≢◌, ◌↔◌, ℕ, suc, ◌==◌, Bool, true, false, ◌&&◌, ◌||◌}
 use Rattle.pmp_core.specs.declared.access.Access.{Access}
 use Rattle.pmp_core.specs.declared.csr.Csr.{Csr}
-use Rattle.pmp_core.specs.declared.csr.Csr.TheVariants.{Cfg, Addr, Mseccfg, Mseccfgh}
+use Rattle.pmp_core.specs.declared.csr.Csr.TheVariants.{Cfg, Addr, Mseccfg}
 use Rattle.pmp_core.specs.declared.decision.Decision.{Decision}
 use Rattle.pmp_core.specs.RegisterFile.{RegisterFile, entry_at}
 use Rattle.pmp_core.specs.RegisterWrite.{holds, is_tor, written}
@@ -14,8 +14,7 @@ use Rattle.pmp_core.specs.Decision.{IsDecision, Touches}
 abbrev pub may_move : RegisterFile → Csr → ℕ → Bool
 may_move file (Cfg q) i = holds_byte_of file.profile q i
 may_move file (Addr j) i = i == j || (i == suc j && is_tor (entry_at file.entries i).configuration.matching)
-may_move file Mseccfg i = false
-may_move file Mseccfgh i = false
+may_move file _ i = false
 
 pub record LeavesOthers (file after : RegisterFile) (csr : Csr) : Type 0 where
   -- the entries that the register doesn't hold

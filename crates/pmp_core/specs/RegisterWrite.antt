@@ -4,7 +4,7 @@ use Rattle.std.specs.Prelude.{if◌then◌else◌, List, length, map, slice_inde
 use Rattle.std.specs.List.{range_with_len, list_any}
 use Rattle.std.specs.Int.{w64, to_le_bytes}
 use Rattle.pmp_core.specs.declared.configuration.AddressMatching.{AddressMatching}
-use Rattle.pmp_core.specs.declared.configuration.AddressMatching.TheVariants.{Off, Tor, Na4, Napot}
+use Rattle.pmp_core.specs.declared.configuration.AddressMatching.TheVariants.{Tor}
 use Rattle.pmp_core.specs.declared.csr.Csr.{Csr}
 use Rattle.pmp_core.specs.declared.csr.Csr.TheVariants.{Cfg, Addr, Mseccfg, Mseccfgh}
 use Rattle.pmp_core.specs.Entry.{Entry}
@@ -43,8 +43,7 @@ stored file i =
 abbrev pub holds : Profile → Csr → (i : ℕ) → Bool
 holds profile (Cfg q) i = holds_byte_of profile q i
 holds profile (Addr k) i = i == k
-holds profile Mseccfg i = false
-holds profile Mseccfgh i = false
+holds profile _ i = false
 
 -- entry i after pmpcfg q is written; the lowest byte is the lowest entry's
 abbrev pub configured : RegisterFile → (q value i : ℕ) → Entry
@@ -56,10 +55,8 @@ configured file q value i =
     else entry
 
 abbrev pub is_tor : AddressMatching → Bool
-is_tor Off = false
 is_tor Tor = true
-is_tor Na4 = false
-is_tor Napot = false
+is_tor _ = false
 
 -- a frozen entry freezes its own pmpaddr, and if it is TOR, also the one before (3.7.1.2)
 abbrev pub is_address_frozen : RegisterFile → ℕ → Bool

@@ -1,7 +1,7 @@
 -- What a rule allows, and what is allowed if no entry matches (Volume II, 3.7.1.2, 3.7.1.3 and Smepmp).
 use Rattle.std.specs.Prelude.{ℕ, ◌+◌, ◌*◌, Bool, true, false, nat_lt, length}
 use Rattle.pmp_core.specs.declared.access.Mode.{Mode}
-use Rattle.pmp_core.specs.declared.access.Mode.TheVariants.{M, S, U}
+use Rattle.pmp_core.specs.declared.access.Mode.TheVariants.{M}
 use Rattle.pmp_core.specs.declared.access.Kind.{Kind}
 use Rattle.pmp_core.specs.declared.access.Kind.TheVariants.{Fetch, Load, Store}
 use Rattle.pmp_core.specs.declared.perms.Perms.{Perms}
@@ -44,8 +44,7 @@ rwx = record { read = true; write = true; execute = true }
 -- the first of the two for M-mode, the second for S-mode and U-mode
 abbrev pub for_mode : Rights → Rights → Mode → Rights
 for_mode machine others M = machine
-for_mode machine others S = others
-for_mode machine others U = others
+for_mode machine others _ = others
 
 -- the bits R, W and X themselves
 abbrev pub bits_of : Configuration → Rights

@@ -2,10 +2,10 @@
 use Rattle.std.specs.Prelude.{◌≡◌, ◌↔◌, ℕ, ◌*◌, ◌<◌, ◌≤◌, nat_lt, ◌==◌, ◌||◌, Bool, true, List}
 use Rattle.std.specs.List.{list_all, range_with_len}
 use Rattle.pmp_core.specs.declared.access.Access.{Access}
-use Rattle.pmp_core.specs.declared.csr.Csr.TheVariants.{Cfg, Addr, Mseccfg, Mseccfgh}
+use Rattle.pmp_core.specs.declared.csr.Csr.TheVariants.{Cfg, Addr}
 use Rattle.pmp_core.specs.declared.decision.Decision.{Decision}
 use Rattle.pmp_core.specs.declared.event.Event.{Event}
-use Rattle.pmp_core.specs.declared.event.Event.TheVariants.{Write, Reset}
+use Rattle.pmp_core.specs.declared.event.Event.TheVariants.{Write}
 use Rattle.pmp_core.specs.declared.register_write.TheConstants.{ENTRIES_PER_CFG}
 use Rattle.pmp_core.specs.declared.hart.Profile.{Profile}
 use Rattle.pmp_core.specs.Hart.{IsProfile}
@@ -21,9 +21,7 @@ abbrev pub writes_first : (n : ℕ) → Event → Bool
 writes_first n (Write (Cfg q) value) =
     list_all (λ i. nat_lt i n || byte_for q value i == 0) (range_with_len (4 * q) ENTRIES_PER_CFG)
 writes_first n (Write (Addr i) value) = nat_lt i n
-writes_first n (Write Mseccfg value) = true
-writes_first n (Write Mseccfgh value) = true
-writes_first n Reset = true
+writes_first n _ = true
 
 -- both files decide the access the same
 pub record DecideAlike (one other : RegisterFile) (access : Access) : Type 0 where

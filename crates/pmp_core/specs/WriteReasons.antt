@@ -36,8 +36,7 @@ is_changed file (Cfg q) value i =
 is_changed file (Addr k) value i =
     let entry = entry_at file.entries i in
     k == i && not (value == read_address file.profile.grain entry.configuration.matching entry.address)
-is_changed file Mseccfg value i = false
-is_changed file Mseccfgh value i = false
+is_changed file _ value i = false
 
 -- the write would change a frozen entry (3.7.1.2)
 abbrev pub changes_frozen : RegisterFile → Csr → (value i : ℕ) → Bool
@@ -45,20 +44,17 @@ changes_frozen file csr value i = is_frozen file i && is_changed file csr value 
 
 -- the write would change the low bound of a frozen TOR entry, and the entry before isn't frozen (3.7.1.2)
 abbrev pub is_low_end : RegisterFile → Csr → (value i : ℕ) → Bool
-is_low_end file (Cfg q) value i = false
+
 is_low_end file (Addr k) value i =
     not (is_frozen file i) && is_address_frozen file i && is_changed file (Addr k) value i
-is_low_end file Mseccfg value i = false
-is_low_end file Mseccfgh value i = false
+is_low_end file _ value i = false
 
 -- W without R would be stored in an entry that isn't frozen, and MML is 0 (3.7.1)
 abbrev pub adds_reserved : RegisterFile → Csr → (value i : ℕ) → Bool
 adds_reserved file (Cfg q) value i =
     holds_byte_of file.profile q i && not (is_frozen file i) && not file.mseccfg.mml
     && is_reserved (configuration_of (byte_for q value i))
-adds_reserved file (Addr k) value i = false
-adds_reserved file Mseccfg value i = false
-adds_reserved file Mseccfgh value i = false
+adds_reserved file _ value i = false
 
 -- a barred rule would be stored in an entry that isn't frozen, MML is 1 and RLB is 0 (Smepmp)
 abbrev pub adds_barred : RegisterFile → Csr → (value i : ℕ) → Bool
@@ -66,9 +62,7 @@ adds_barred file (Cfg q) value i =
     let new = configuration_of (byte_for q value i) in
     holds_byte_of file.profile q i && not (is_frozen file i) && file.mseccfg.mml && not file.mseccfg.rlb
     && is_barred new.locked new.read new.write new.execute
-adds_barred file (Addr k) value i = false
-adds_barred file Mseccfg value i = false
-adds_barred file Mseccfgh value i = false
+adds_barred file _ value i = false
 
 -- NA4 would be stored in an entry that isn't frozen, or an address wouldn't read as written by the entry's A, and the
 -- grain is above four bytes (3.7.1.1)
@@ -78,20 +72,17 @@ is_too_fine file (Cfg q) value i =
     && is_na4 (configuration_of (byte_for q value i)).matching
 is_too_fine file (Addr k) value i =
     k == i && not (read_address file.profile.grain (entry_at file.entries i).configuration.matching value == value)
-is_too_fine file Mseccfg value i = false
-is_too_fine file Mseccfgh value i = false
+is_too_fine file _ value i = false
 
 -- whether this is a reason for entry i; only five of the reasons can be
 abbrev pub is_entry_reason : WriteReason → RegisterFile → Csr → (value i : ℕ) → Bool
-is_entry_reason Absent file csr value i = false
-is_entry_reason Bits file csr value i = false
+
 is_entry_reason Frozen file csr value i = changes_frozen file csr value i
 is_entry_reason Tor file csr value i = is_low_end file csr value i
 is_entry_reason Reserved file csr value i = adds_reserved file csr value i
 is_entry_reason Lockdown file csr value i = adds_barred file csr value i
-is_entry_reason Sticky file csr value i = false
-is_entry_reason Bypass file csr value i = false
 is_entry_reason Grain file csr value i = is_too_fine file csr value i
+is_entry_reason _ file csr value i = false
 
 -- some reason holds for entry i
 abbrev pub has_reason : RegisterFile → Csr → (value i : ℕ) → Bool
@@ -131,20 +122,18 @@ has_other_bits profile Mseccfgh value = not (value == 0) && (profile.has_smepmp 
 
 -- the write would clear MML or MMWP (Smepmp)
 abbrev pub clears_sticky : MseccfgFields → Csr → (value : ℕ) → Bool
-clears_sticky mseccfg (Cfg q) value = false
-clears_sticky mseccfg (Addr i) value = false
+
 clears_sticky mseccfg Mseccfg value =
     let new = mseccfg_fields value in
     (mseccfg.mml && not new.mml) || (mseccfg.mmwp && not new.mmwp)
-clears_sticky mseccfg Mseccfgh value = false
+clears_sticky mseccfg _ value = false
 
 -- the write would set RLB while some entry is locked, on a hart with mseccfg (Smepmp)
 abbrev pub sets_bypass : RegisterFile → Csr → (value : ℕ) → Bool
-sets_bypass file (Cfg q) value = false
-sets_bypass file (Addr i) value = false
+
 sets_bypass file Mseccfg value =
     file.profile.has_smepmp && (mseccfg_fields value).rlb && not file.mseccfg.rlb && is_any_locked file.entries
-sets_bypass file Mseccfgh value = false
+sets_bypass file _ value = false
 
 -- a reason for some entry of the unit
 abbrev pub is_some_entry_reason : WriteReason → RegisterFile → Csr → (value : ℕ) → Bool
@@ -155,13 +144,10 @@ is_some_entry_reason reason file csr value =
 abbrev pub is_reason : WriteReason → RegisterFile → Csr → (value : ℕ) → Bool
 is_reason Absent file csr value = is_absent file csr value
 is_reason Bits file csr value = has_other_bits file.profile csr value
-is_reason Frozen file csr value = is_some_entry_reason Frozen file csr value
-is_reason Tor file csr value = is_some_entry_reason Tor file csr value
-is_reason Reserved file csr value = is_some_entry_reason Reserved file csr value
-is_reason Lockdown file csr value = is_some_entry_reason Lockdown file csr value
+
 is_reason Sticky file csr value = clears_sticky file.mseccfg csr value
 is_reason Bypass file csr value = sets_bypass file csr value
-is_reason Grain file csr value = is_some_entry_reason Grain file csr value
+is_reason reason file csr value = is_some_entry_reason reason file csr value
 
 -- the reasons why the register doesn't read the value, in this order
 abbrev pub write_reasons : RegisterFile → Csr → (value : ℕ) → List WriteReason

@@ -2,9 +2,9 @@
 use Rattle.std.specs.Prelude.{◌≡◌, ◌+◌, ◌/◌, ◌%◌, ◌^◌, ◌==◌, if◌then◌else◌, true, false, List, [], ◌∷◌}
 use Rattle.std.specs.List.{flat_map}
 use Rattle.pmp_core.specs.declared.access.Access.{Access}
-use Rattle.pmp_core.specs.declared.csr.Csr.TheVariants.{Cfg, Addr, Mseccfg, Mseccfgh}
+use Rattle.pmp_core.specs.declared.csr.Csr.TheVariants.{Cfg, Mseccfgh}
 use Rattle.pmp_core.specs.declared.event.Event.{Event}
-use Rattle.pmp_core.specs.declared.event.Event.TheVariants.{Write, Reset}
+use Rattle.pmp_core.specs.declared.event.Event.TheVariants.{Write}
 use Rattle.pmp_core.specs.declared.hart.Profile.{Profile}
 use Rattle.pmp_core.specs.Histories.{replay}
 use Rattle.pmp_core.specs.RegisterFile.{RegisterFile}
@@ -14,10 +14,8 @@ use Rattle.pmp_core.specs.SizeLaw.{DecideAlike}
 abbrev pub on_rv32 : Event → List Event
 on_rv32 (Write (Cfg q) value) =
     if q % 2 == 0 then Write (Cfg q) (value % 2 ^ 32) ∷ Write (Cfg (q + 1)) (value / 2 ^ 32) ∷ [] else []
-on_rv32 (Write (Addr i) value) = Write (Addr i) value ∷ []
-on_rv32 (Write Mseccfg value) = Write Mseccfg value ∷ []
 on_rv32 (Write Mseccfgh value) = []
-on_rv32 Reset = Reset ∷ []
+on_rv32 event = event ∷ []
 
 -- both files have the same entries and the same mseccfg, and decide the access the same
 pub record AreAlike (one other : RegisterFile) (access : Access) : Type 0 where

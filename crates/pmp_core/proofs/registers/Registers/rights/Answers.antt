@@ -1,5 +1,0 @@
-use Rattle.std.proofs.Common.{rules}
-use Rattle.pmp_core.proofs.registers.Registers.rights.Goals as goal
-
-pub returns : goal.returns
-returns c = search rules
