@@ -1,18 +1,18 @@
 -- An address register is stored as written exactly where there is no reason.
 use borrow.Author.Tests.{tests}
-use Rattle.std.proofs.Common.{rules, ◌≡◌, ℕ, ◌-◌, ◌/◌, ◌%◌, ◌<◌, ◌≤◌, Bool, true, false, cond, not, ◌&&◌, ◌==◌, nat_lt, List}
+use Rattle.std.proofs.Common.{rules, ◌≡◌, ℕ, ◌-◌, ◌%◌, ◌<◌, ◌≤◌, Bool, true, false, not, ◌&&◌, ◌==◌, nat_lt, List}
 use Rattle.std.proofs.Common.{length, refl, sym, ap, ◌∙◌, inl, inr, arith, length-set, get_or-set_same}
 use Rattle.std.proofs.Math.ListN.{set}
 use Rattle.std.proofs.Math.Nat.{mod-lt, mod-eq_of_lt, div-eq_of_lt, lt-mul-div-succ}
 use Rattle.pmp_core.proofs.Legal.{wide_bits, zero_fits}
-use Rattle.std.proofs.lemmas.Bool.{cases_lt, cases_eq, cases_Bool, not-false, and_left, and_right}
+use Rattle.std.proofs.lemmas.Bool.{cases_Bool, not-false, and_left, and_right}
 use Rattle.std.proofs.lemmas.Bool.{eqb-true, eq-eqb, ne_eqb, lt-ltb, le-ltb}
 use Rattle.std.proofs.lemmas.List.{get_or_past}
 use Rattle.pmp_core.specs.declared.csr.Csr.TheVariants.{Addr}
 use Rattle.pmp_core.specs.Entry.{Entry}
 use Rattle.pmp_core.specs.Grain.{read_address}
 use Rattle.pmp_core.specs.Hart.{word_addresses}
-use Rattle.pmp_core.specs.declared.write_reasons.WriteReason.TheVariants.{Frozen, Tor, Reserved, Lockdown, Grain}
+use Rattle.pmp_core.specs.declared.write_reasons.WriteReason.TheVariants.{Frozen, Tor, Grain}
 use Rattle.pmp_core.specs.RegisterFile.{RegisterFile, reset_entry, entry_at, is_frozen, IsLegal}
 use Rattle.pmp_core.specs.RegisterValue.{register_value}
 use Rattle.pmp_core.specs.RegisterWrite.{is_address_frozen, written}
@@ -43,9 +43,7 @@ module _ (file : RegisterFile) (legal : IsLegal file) (i value : ℕ) where
   fits = omega (arith, legal.profile.fine, wide_bits file.profile legal.profile)
 
   within : (address : ℕ) → address < words → reads address < words
-  within address small =
-      read_within file.profile.grain (file.profile.address_bits - 2) (entry_at file.entries i).configuration.matching
-      address fits small
+  within address small = search (rules, tests, read_within, fits)
 
   nothing : (entry : Entry) → entry ≡ reset_entry
       → read_address file.profile.grain entry.configuration.matching entry.address ≡ 0
@@ -56,12 +54,7 @@ module _ (file : RegisterFile) (legal : IsLegal file) (i value : ℕ) where
   reads_frozen frozen = rw frozen refl
 
   pub reads_nothing : length file.entries ≤ i → register_value (written file (Addr i) value) (Addr i) ≡ 0
-  reads_nothing past = elim (is_address_frozen file i) as
-      (λ frozen. (let entry = entry_at (cond frozen file.entries set_address) i in
-      read_address file.profile.grain entry.configuration.matching entry.address) ≡ 0) [
-        | true ↦ nothing _ (get_or_past file.entries i reset_entry past)
-        | false ↦ nothing _ (get_or_past set_address i reset_entry (simp length-set past))
-      ]
+  reads_nothing past = search (rules, tests, nothing, get_or_past, length-set)
 
   pub reads_value : is_address_frozen file i ≡ false → i < length file.entries
       → register_value (written file (Addr i) value) (Addr i) ≡ reads (value % words)
@@ -92,31 +85,18 @@ module _ (file : RegisterFile) (legal : IsLegal file) (i value : ℕ) where
         (not-false _ (sym fine_here ∙ none_at_entry Grain file (Addr i) value none.grain i inside))
 
     zero_value : length file.entries ≤ i → value ≡ 0
-    zero_value past =
-        eqb-true value 0 (not-false _ (and_true _ (rw (le-ltb i (length file.entries) past) at none.absent)))
+    zero_value past = search (rules, tests, eqb-true, not-false, and_true, le-ltb)
 
     mod_value : value % words ≡ value
-    mod_value = let few : value / words ≡ 0 = eqb-true _ 0 (not-false _ none.bits) in
-        mod-eq_of_lt (omega (arith, rw few at (lt-mul-div-succ value some)))
+    mod_value = search (rules, tests, eqb-true, not-false, mod-eq_of_lt, lt-mul-div-succ, some)
 
     pub address_stored : register_value (written file (Addr i) value) (Addr i) ≡ value
-    address_stored = elim (cases_lt i (length file.entries)) [
-      | inr past ↦ reads_nothing past ∙ sym (zero_value past)
-      | inl inside ↦ elim (cases_Bool (is_address_frozen file i)) [
-        | inl frozen ↦ reads_frozen frozen ∙ unchanged frozen inside
-        | inr free ↦ reads_value free inside ∙ ap reads mod_value ∙ reads_so inside
-      ]
-    ]
+    address_stored =
+        search (rules, tests, reads_nothing, zero_value, reads_frozen, unchanged, reads_value, mod_value, reads_so)
 
   module _ (same : register_value (written file (Addr i) value) (Addr i) ≡ value) where
     few_bits : value < words
-    few_bits = elim (cases_lt i (length file.entries)) [
-      | inr past ↦ rw (sym same ∙ reads_nothing past) some
-      | inl inside ↦ elim (cases_Bool (is_address_frozen file i)) [
-        | inl frozen ↦ rw (sym same ∙ reads_frozen frozen) (within _ (legal.words i))
-        | inr free ↦ rw (sym same ∙ reads_value free inside) (within _ (mod-lt value some))
-      ]
-    ]
+    few_bits = search (rules, tests, reads_nothing, some, reads_frozen, within, reads_value, mod-lt)
 
     -- the value is what the register reads of some address, and so of itself
     reads_again : i < length file.entries → reads value ≡ value
@@ -130,29 +110,14 @@ module _ (file : RegisterFile) (legal : IsLegal file) (i value : ℕ) where
         ]
 
     reads_absent : (not (value == 0) && not (nat_lt i (length file.entries))) ≡ false
-    reads_absent = elim (cases_lt i (length file.entries)) [
-      | inr past ↦ and_left _ _ (not_same value 0 (sym same ∙ reads_nothing past))
-      | inl inside ↦ rw (lt-ltb i (length file.entries) inside) (and_right _ false refl)
-    ]
+    reads_absent = search (rules, tests, and_left, not_same, reads_nothing, lt-ltb, and_right)
 
     fine : (k : ℕ) → (changes_frozen file (Addr i) value k ≡ false) × (is_low_end file (Addr i) value k ≡ false)
     fine k = search (rules, tests)
 
     coarse : (k : ℕ) → k < length file.entries → is_too_fine file (Addr i) value k ≡ false
-    coarse k inside = elim (cases_eq i k) [
-      | inl here ↦ rw (← here) (fine_here ∙ not_same (reads value) value (reads_again (rw here inside)))
-      | inr other ↦ rw (ne_eqb i k other) refl
-    ]
+    coarse k inside = search (rules, tests, fine_here, not_same, reads_again, ne_eqb)
 
     pub address_reasonless : HasNone file (Addr i) value
-    address_reasonless = record {
-      absent = reads_absent;
-      bits = not_same (value / words) 0 (div-eq_of_lt few_bits);
-      frozen = none_at_entries Frozen file (Addr i) value (λ k inside. (fine k).0);
-      tor = none_at_entries Tor file (Addr i) value (λ k inside. (fine k).1);
-      reserved = none_at_entries Reserved file (Addr i) value (λ k inside. refl);
-      lockdown = none_at_entries Lockdown file (Addr i) value (λ k inside. refl);
-      sticky = refl;
-      bypass = refl;
-      grain = none_at_entries Grain file (Addr i) value coarse;
-    }
+    address_reasonless =
+        search (rules, tests, reads_absent, not_same, div-eq_of_lt, few_bits, none_at_entries, fine, coarse)

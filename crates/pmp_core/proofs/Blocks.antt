@@ -1,5 +1,6 @@
 -- Two bytes of one block of the grain.
-use Rattle.std.proofs.Common.{◌≡◌, ℕ, zero, suc, ◌+◌, ◌-◌, ◌*◌, ◌/◌, ◌%◌, ◌^◌, ◌<◌, ◌≤◌, refl, sym, ap, ◌∙◌, inl, inr}
+use borrow.Author.Tests.{tests}
+use Rattle.std.proofs.Common.{rules, ◌≡◌, ℕ, ◌+◌, ◌-◌, ◌*◌, ◌/◌, ◌%◌, ◌^◌, ◌<◌, ◌≤◌, refl, sym, ap, ◌∙◌, inl, inr}
 use Rattle.std.proofs.Common.{arith}
 use Rattle.std.proofs.Math.Nat.{div-lt_iff_lt-mul, le-div_iff_mul-le, mul-mod_left}
 use Rattle.std.proofs.Math.Pow.{pow_pos}
@@ -10,8 +11,7 @@ use Rattle.pmp_core.specs.declared.configuration.AddressMatching.{AddressMatchin
 use Rattle.pmp_core.specs.declared.configuration.AddressMatching.TheVariants.{Off, Tor, Na4, Napot}
 use Rattle.pmp_core.specs.Grain.{napot_address, selectable, tor_address}
 use Rattle.pmp_core.specs.GrainLaw.{GrainLaw}
-use Rattle.pmp_core.specs.Matching.{InNapot, MatchesBy, low_address}
-use Rattle.pmp_core.specs.RegisterFile.{entry_at}
+use Rattle.pmp_core.specs.Matching.{InNapot, MatchesBy}
 
 -- an address of NAPOT ends in G-1 ones at least
 enough_ones : (grain address k y : ℕ) → napot_address grain address ≡ y * 2 ^ (k + 1) + 2 ^ k - 1 → grain ≤ k + 1
@@ -35,12 +35,10 @@ enough_ones grain address k y spelled = elim (cases_lt (k + 1) grain) [
 
 module _ (grain one other : ℕ) (same : one / 2 ^ (grain + 2) ≡ other / 2 ^ (grain + 2)) where
   from_alike : (q : ℕ) → q * 2 ^ (grain + 2) ≤ one → q * 2 ^ (grain + 2) ≤ other
-  from_alike q h =
-      (le-div_iff_mul-le (pow_pos (grain + 2))).0 (rw same at ((le-div_iff_mul-le (pow_pos (grain + 2))).1 h))
+  from_alike q h = search (rules, tests, le-div_iff_mul-le, pow_pos)
 
   below_alike : (q : ℕ) → one < q * 2 ^ (grain + 2) → other < q * 2 ^ (grain + 2)
-  below_alike q h =
-      (div-lt_iff_lt-mul (pow_pos (grain + 2))).0 (rw same at ((div-lt_iff_lt-mul (pow_pos (grain + 2))).1 h))
+  below_alike q h = search (rules, tests, div-lt_iff_lt-mul, pow_pos)
 
   -- the ends of a range are ends of blocks
   top_end : (address : ℕ) → 4 * tor_address grain address ≡ address / 2 ^ grain * 2 ^ (grain + 2)
@@ -55,17 +53,7 @@ module _ (grain one other : ℕ) (same : one / 2 ^ (grain + 2) ≡ other / 2 ^ (
       )
 
   napot_alike : (address : ℕ) → InNapot (napot_address grain address) one → InNapot (napot_address grain address) other
-  napot_alike address h =
-      let coarse = enough_ones grain address h.k h.y h.spelled in
-      let low = napot_end h.y h.k coarse in
-      let high = napot_end (h.y + 1) h.k coarse in
-      record {
-        k = h.k;
-        y = h.y;
-        spelled = h.spelled;
-        from = rw low (from_alike (h.y * 2 ^ (h.k + 1 - grain)) (rw low at h.from));
-        to = rw high (below_alike ((h.y + 1) * 2 ^ (h.k + 1 - grain)) (rw high at h.to));
-      }
+  napot_alike address h = search (rules, tests, enough_ones, napot_end, from_alike, below_alike)
 
   na4_alike : (address : ℕ) → grain ≡ 0 → (4 * address ≤ one) × (one < 4 * address + 4)
       → (4 * address ≤ other) × (other < 4 * address + 4)
@@ -83,20 +71,7 @@ module _ (grain one other : ℕ) (same : one / 2 ^ (grain + 2) ≡ other / 2 ^ (
 
 -- NA4 can be chosen with the finest grain alone
 na4_finest : (grain : ℕ) (c : Configuration) → selectable grain c ≡ c → c.matching ≡ Na4 → grain ≡ 0
-na4_finest zero c chosen na4 = refl
-na4_finest (suc grain) c chosen na4 =
-    let off : (selectable (suc grain) c).matching ≡ Off =
-    rw (na4, lt-ltb 0 (suc grain) (omega arith)) refl in
-    let same : Off ≡ c.matching = sym off ∙ ap (λ (d : Configuration). d.matching) chosen in
-    absurd cc
+na4_finest x0 c chosen na4 = search (rules, tests, lt-ltb)
 
 pub grain_law : GrainLaw
-grain_law file legal one other same i =
-    let entry = entry_at file.entries i in
-    let grain = file.profile.grain in
-    let mode = entry.configuration.matching in
-    let low = low_address file.entries i in
-    let finest = na4_finest grain entry.configuration (legal.chosen i) in (
-      alike_by grain one other same mode low entry.address finest,
-      alike_by grain other one (sym same) mode low entry.address finest,
-    )
+grain_law file legal one other same i = search (rules, tests, na4_finest, alike_by)

@@ -1,16 +1,15 @@
 -- Whose bytes a configuration register holds, and what it makes of them when it is written.
 use borrow.Author.Tests.{tests}
 use Rattle.std.proofs.Common.{rules, ◌≡◌, ℕ, ◌+◌, ◌-◌, ◌*◌, ◌<◌, ◌≤◌, Bool, true, false, cond, ◌&&◌, nat_le, nat_lt}
-use Rattle.std.proofs.Common.{slice_index, length, arith, refl, ap}
+use Rattle.std.proofs.Common.{slice_index, length, arith, refl}
 use Rattle.std.specs.Int.{w64, to_le_bytes}
 use Rattle.std.proofs.lemmas.Bool.{and_parts, leb-true, ltb-true}
 use Rattle.std.proofs.lemmas.Bool.Decides.{nat_tests}
 use Rattle.std.proofs.lemmas.List.{get_or_past}
 use Rattle.pmp_core.specs.declared.hart.Profile.{Profile}
 use Rattle.pmp_core.specs.Configuration.{byte_of}
-use Rattle.pmp_core.specs.Entry.{Entry}
 use Rattle.pmp_core.specs.Hart.{bytes_in, holds_byte_of}
-use Rattle.pmp_core.specs.RegisterFile.{RegisterFile, entry_at, reset_entry}
+use Rattle.pmp_core.specs.RegisterFile.{RegisterFile, entry_at}
 use Rattle.pmp_core.specs.RegisterValue.{byte_in}
 use Rattle.pmp_core.specs.RegisterWrite.{configured, stored_over}
 use Rattle.pmp_core.proofs.StoredBytes.{byte_plain}
@@ -52,18 +51,12 @@ module _ (profile : Profile) (q : ℕ) where
 -- ---- what it reads
 
 pub byte_within : (file : RegisterFile) (q i : ℕ) → byte_in file q i < 256
-byte_within file q i =
-    let c = (entry_at file.entries i).configuration in
-    elim (holds_byte_of file.profile q i) as (λ holds. cond holds (byte_of c) 0 < 256) [
-      | true ↦ (byte_plain c).1
-      | false ↦ omega arith
-    ]
+byte_within file q i = search (rules, tests, byte_plain)
 
 module _ (file : RegisterFile) (q place count : ℕ) (count_is : count ≡ bytes_in file.profile q) where
   pub byte_there : (byte : ℕ) → place < count → byte ≡ byte_of (entry_at file.entries (4 * q + place)).configuration
       → byte ≡ byte_in file q (4 * q + place)
-  byte_there byte near is =
-      rw (held file.profile q (4 * q + place) (omega arith) (omega (arith, count_is))) is
+  byte_there byte near is = search (rules, tests, held)
 
   pub byte_beside : count ≤ place → 0 ≡ byte_in file q (4 * q + place)
   byte_beside far = rw (none_above file.profile q (4 * q + place) (omega (arith, count_is))) refl
@@ -72,8 +65,7 @@ zero_either : (holds : Bool) (byte : ℕ) → byte ≡ 0 → 0 ≡ cond holds by
 zero_either holds byte is = search rules
 
 pub byte_past : (file : RegisterFile) (q i : ℕ) → length file.entries ≤ i → 0 ≡ byte_in file q i
-byte_past file q i past = zero_either (holds_byte_of file.profile q i) _
-    (ap (λ (e : Entry). byte_of e.configuration) (get_or_past file.entries i reset_entry past))
+byte_past file q i past = search (rules, tests, zero_either, get_or_past)
 
 -- ---- what is written
 

@@ -1,6 +1,7 @@
 -- The decision by ranges is the manual's, and the manual's is one.
+use borrow.Author.Tests.{tests}
 use Rattle.std.proofs.Common.{◌≡◌, ℕ, suc, ◌+◌, ◌-◌, ◌<◌, ◌≤◌, Bool, true, false, cond, List, [], ◌∷◌, length, Option}
-use Rattle.std.proofs.Common.{Some, None, max, slice_index_or, refl, sym, ap, ◌∙◌, arith, add-zero, below_more, inl}
+use Rattle.std.proofs.Common.{Some, max, slice_index_or, refl, sym, ap, ◌∙◌, arith, add-zero, below_more, inl}
 use Rattle.std.proofs.Common.{rules, inr}
 use Rattle.std.proofs.lemmas.Bool.{cases_lt, ltb-true, false≢true}
 use Rattle.std.proofs.lemmas.Bool.Decides.{nat_tests}
@@ -12,11 +13,11 @@ use Rattle.pmp_core.specs.declared.decision.Cause.{Cause}
 use Rattle.pmp_core.specs.declared.decision.Cause.TheVariants.{Rule, Split, NoMatch}
 use Rattle.pmp_core.specs.declared.decision.Decision.{Decision}
 use Rattle.pmp_core.specs.declared.range.ByteRange.{ByteRange}
-use Rattle.pmp_core.specs.RegisterFile.{RegisterFile, reset_entry, HasAddresses}
+use Rattle.pmp_core.specs.RegisterFile.{RegisterFile, HasAddresses}
 use Rattle.pmp_core.specs.Matching.{Matches}
 use Rattle.pmp_core.specs.Decision.{IsLeast, IsOwner, Touches, IsDecider, IsDecision, IsDecisionBy}
 use Rattle.pmp_core.specs.Rights.{allows, nothing, rights}
-use Rattle.pmp_core.specs.Ranges.{IsInRange, range_of, ranges_of, is_touched, is_covered, rights_by, cause_at}
+use Rattle.pmp_core.specs.Ranges.{IsInRange, range_of, ranges_of, is_touched, is_covered, rights_by}
 use Rattle.pmp_core.specs.Ranges.{cause_from, cause_of, decision_of}
 use Rattle.pmp_core.proofs.Matches.{matches_range}
 use Rattle.pmp_core.proofs.Places.{no_range, length-ranges_of}
@@ -48,8 +49,7 @@ CoversBytes file start end i = (byte : ℕ) → (start ≤ byte) × (byte < end)
 
 module _ (file : RegisterFile) (start end : ℕ) (small : HasAddresses file) (i : ℕ) where
   touches_range : TouchesBytes file start end i → is_touched start end (range_of file i) ≡ true
-  touches_range (byte, inside, matched) =
-      touched_byte start end (range_of file i) byte inside.0 inside.1 ((matches_range file i byte small).0 matched)
+  touches_range x0 = search (rules, tests, touched_byte, matches_range)
 
   range_touches : is_touched start end (range_of file i) ≡ true → TouchesBytes file start end i
   range_touches h =
@@ -57,19 +57,13 @@ module _ (file : RegisterFile) (start end : ℕ) (small : HasAddresses file) (i 
       (max (range_of file i).start start, (omega arith, t.1), (matches_range file i _ small).1 t.0)
 
   covers_range : start < end → CoversBytes file start end i → is_covered start end (range_of file i) ≡ true
-  covers_range full h =
-      let first = (matches_range file i start small).0 (h start (omega arith, omega arith)) in
-      let last = (matches_range file i (end - 1) small).0 (h (end - 1) (omega arith, omega arith)) in
-      covered_ends start end (range_of file i) first.0 (omega (arith, last.1))
+  covers_range full h = search (rules, tests, matches_range, covered_ends)
 
   range_covers : is_covered start end (range_of file i) ≡ true → CoversBytes file start end i
-  range_covers h byte inside =
-      let ends = ends_covered start end (range_of file i) h in
-      (matches_range file i byte small).1 (omega (arith, ends.0, inside.0), omega (arith, ends.1, inside.1))
+  range_covers h byte inside = search (rules, tests, ends_covered, matches_range)
 
 untouched_past : (file : RegisterFile) (start end i : ℕ) → length file.entries ≤ i → ¬ (TouchesBytes file start end i)
-untouched_past file start end i past touches = let matched = touches.2 in
-    absurd (rw (get_or_past file.entries i reset_entry past) at matched)
+untouched_past file start end i past touches = search (rules, tests, get_or_past)
 
 -- ---- one pass
 
@@ -144,10 +138,7 @@ decided file access cause is = search (rules, refuses)
 pub decided_by_ranges : (file : RegisterFile) (access : Access) → HasAddresses file
     → IsDecision file access (decision_of file access)
 unfolding decision_of
-decided_by_ranges file access small =
-    let full = access.not_empty in
-    decided file access (cause_at file access)
-    (cause_is file access.start (access.start + access.length) (omega arith) small)
+decided_by_ranges file access small = search (rules, tests, decided, cause_is)
 
 -- ---- one decision
 
@@ -174,21 +165,13 @@ module _ (file : RegisterFile) (access : Access) where
 
 pub one_decision : (file : RegisterFile) (access : Access) (one other : Decision) → IsDecision file access one
     → IsDecision file access other → one ≡ other
-one_decision file access one other p q =
-    let same = decided_once file access one.allowed other.allowed one.cause other.cause p q in
-    let decision : Bool → Cause → Decision = λ allowed cause. record { allowed = allowed; cause = cause } in
-    ap (λ (allowed : Bool). decision allowed one.cause) same.0 ∙ ap (decision other.allowed) same.1
+one_decision file access one other p q = search (rules, tests, decided_once)
 
 -- ---- one byte
 
 module _ (file : RegisterFile) (access : Access) (single : access.length ≡ 1) where
   matches_single : (i : ℕ) → Touches file access i → Matches file i access.start
-  matches_single i (byte, inside, matched) = let here : byte ≡ access.start = omega (arith, inside.0, inside.1) in
-      rw here at matched
+  matches_single i x1 = search (rules, tests)
 
   pub owner_decides : (owner : Option ℕ) → IsOwner file access.start owner → IsDecider file access owner
-  owner_decides None unowned = λ i touches. unowned i (matches_single i touches)
-  owner_decides (Some i) owned = (
-    (access.start, (omega arith, omega arith), owned.0),
-    λ j below touches. owned.1 j below (matches_single j touches),
-  )
+  owner_decides x0 unowned = search (rules, tests, matches_single)

@@ -1,13 +1,13 @@
 -- The reasons for a write, one by one.
+use borrow.Author.Tests.{tests}
 use Rattle.std.proofs.Common.{◌==◌, ◌≡◌, ℕ, zero, suc, ◌+◌, ◌-◌, ◌<◌, ◌≤◌, Bool, true, false, cond, List, [], ◌∷◌, length}
-use Rattle.std.proofs.Common.{get_or, refl, sym, ◌∙◌, inl, inr, arith}
+use Rattle.std.proofs.Common.{rules, get_or, refl, sym, ◌∙◌, inl, inr, arith}
 use Rattle.std.specs.List.{range_with_len, list_any, filter}
 use Rattle.std.proofs.lemmas.Bool.{false≢true, false_from_ne_true, or_from, cases_Bool, cases_lt, and_right}
 use Rattle.std.proofs.lemmas.Bool.{eq-eqb, ne_eqb}
 use Rattle.std.proofs.lemmas.List.Folds.{list_any_at}
 use Rattle.std.proofs.lemmas.List.FromFn.{length-range_with_len, get_or-range_with_len}
 use Rattle.pmp_core.specs.declared.csr.Csr.{Csr}
-use Rattle.pmp_core.specs.declared.csr.Csr.TheVariants.{Cfg, Addr}
 use Rattle.pmp_core.specs.declared.write_reasons.WriteReason.{WriteReason}
 use Rattle.pmp_core.specs.declared.write_reasons.WriteReason.TheVariants.{Absent, Bits, Frozen, Tor, Reserved, Lockdown}
 use Rattle.pmp_core.specs.declared.write_reasons.WriteReason.TheVariants.{Sticky, Bypass, Grain}
@@ -52,8 +52,7 @@ none_in p [] h = refl
 none_in p (x ∷ xs) h = or_from (p x) _ (h 0 (omega arith)) (none_in p xs (λ i near. h (suc i) (omega arith)))
 
 pub none_of : (p : ℕ → Bool) (xs : List ℕ) (i : ℕ) → list_any p xs ≡ false → i < length xs → p (get_or xs i 0) ≡ false
-none_of p xs i none near =
-    false_from_ne_true (p (get_or xs i 0)) (λ t. false≢true (sym none ∙ list_any_at p xs i 0 near t))
+none_of p xs i none near = search (rules, tests, false_from_ne_true, false≢true, list_any_at)
 
 -- who passes beside a span of the numbers doesn't, so the span says whether any does
 pub any_between : (p : ℕ → Bool) (a b n : ℕ) → b ≤ n
@@ -81,15 +80,7 @@ turned i k other = ne_eqb k i (λ same. false≢true (sym other ∙ eq-eqb i k (
 -- no reason holds for an entry of which the register holds nothing
 pub not_own : (reason : WriteReason) (file : RegisterFile) (csr : Csr) (value i : ℕ) → holds file.profile csr i ≡ false
     → is_entry_reason reason file csr value i ≡ false
-not_own Frozen file (Cfg q) value i other = rw other (and_right _ false refl)
-not_own Frozen file (Addr k) value i other = rw (turned i k other) (and_right _ false refl)
-not_own Frozen file csr value i other = and_right _ false refl
-not_own Tor file (Addr k) value i other = rw (turned i k other) (and_right _ false refl)
-not_own Reserved file (Cfg q) value i other = rw other refl
-not_own Lockdown file (Cfg q) value i other = rw other refl
-not_own Grain file (Cfg q) value i other = rw other refl
-not_own Grain file (Addr k) value i other = rw (turned i k other) refl
-not_own reason file csr value i other = refl
+not_own x0 file x2 value i other = search (rules, tests, and_right, turned)
 
 module _ (reason : WriteReason) (file : RegisterFile) (csr : Csr) (value : ℕ) where
   pub none_at_entry : is_some_entry_reason reason file csr value ≡ false → (i : ℕ) → i < length file.entries
@@ -99,8 +90,7 @@ module _ (reason : WriteReason) (file : RegisterFile) (csr : Csr) (value : ℕ) 
 
   pub none_at_entries : ((i : ℕ) → i < length file.entries → is_entry_reason reason file csr value i ≡ false)
       → is_some_entry_reason reason file csr value ≡ false
-  none_at_entries each = none_between (is_entry_reason reason file csr value) 0 (length file.entries)
-      (λ i _ inside. each i (omega arith))
+  none_at_entries each = search (rules, tests, none_between)
 
 -- ---- the reasons one by one
 
@@ -134,5 +124,4 @@ has_none file csr value none =
 
 pub no_reasons : (file : RegisterFile) (csr : Csr) (value : ℕ) → HasNone file csr value
     → write_reasons file csr value ≡ []
-no_reasons file csr value h =
-    rw (h.absent, h.bits, h.frozen, h.tor, h.reserved, h.lockdown, h.sticky, h.bypass, h.grain) refl
+no_reasons file csr value h = search (rules, tests)

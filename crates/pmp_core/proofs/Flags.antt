@@ -1,7 +1,7 @@
 -- A flag of a set is a bit of its number.
-use Rattle.std.proofs.Common.{◌≡◌, ℕ, zero, suc, ◌*◌, ◌/◌, ◌%◌, ◌^◌, ◌<◌, eqb, ap, ◌∙◌, arith}
+use borrow.Author.Tests.{tests}
+use Rattle.std.proofs.Common.{rules, ◌≡◌, ℕ, ◌*◌, ◌/◌, ◌%◌, ◌^◌, ◌<◌, eqb}
 use Rattle.std.specs.Int.RustNames.{bit_and}
-use Rattle.std.proofs.lemmas.Bool.Decides.{nat_tests}
 use Rattle.std.proofs.lemmas.Nat.{pow_pos}
 use Rattle.std.proofs.lemmas.Nat.Bits.{and_pow}
 use Rattle.pmp_core.specs.declared.access.Kind.{Kind}
@@ -9,13 +9,10 @@ use Rattle.pmp_core.specs.declared.access.Kind.TheVariants.{Fetch, Load, Store}
 use Rattle.pmp_core.specs.Perms.{right_of}
 
 bit_test : (b p : ℕ) → b < 2 → 0 < p → eqb (b * p) p ≡ eqb b 1
-bit_test zero p low high = grind (arith, nat_tests)
-bit_test (suc zero) p low high = grind (arith, nat_tests)
-bit_test (suc (suc b)) p low high = absurd (omega arith)
+bit_test x0 p low high = search (rules, tests)
 
 pub flag_is_bit : (n k : ℕ) → eqb (bit_and n (2 ^ k)) (2 ^ k) ≡ eqb (n / 2 ^ k % 2) 1
-flag_is_bit n k = ap (λ (m : ℕ). eqb m (2 ^ k)) (and_pow n k)
-    ∙ bit_test (n / 2 ^ k % 2) (2 ^ k) (omega arith) (pow_pos k)
+flag_is_bit n k = search (rules, tests, and_pow, bit_test, pow_pos)
 
 -- the right that a kind of access needs is one bit of the set
 pub right_is_bit : (n : ℕ) (kind : Kind) → eqb (bit_and n (right_of kind).0) (right_of kind).0

@@ -1,4 +1,5 @@
 -- Addresses by the grain.
+use borrow.Author.Tests.{tests}
 use Rattle.std.proofs.Common.{rules, ◌≡◌, ℕ, ◌+◌, ◌-◌, ◌*◌, ◌/◌, ◌^◌, ◌<◌, ◌≤◌, false, nat_lt}
 use Rattle.std.proofs.Common.{refl, sym, ap, ◌∙◌, arith}
 use Rattle.std.proofs.Math.Nat.{div-eq_of_lt, div-lt_iff_lt-mul, div-mul-le_self, mul-add-div_right, mul-div_cancel}
@@ -36,13 +37,7 @@ tor_again : (grain address : ℕ) → tor_address grain (tor_address grain addre
 tor_again grain address = ap (λ (q : ℕ). q * 2 ^ grain) (mul-div_cancel (address / 2 ^ grain) (pow_pos grain))
 
 napot_again : (grain address : ℕ) → napot_address grain (napot_address grain address) ≡ napot_address grain address
-napot_again grain address =
-    let ones = 2 ^ (grain - 1) in
-    let some : 0 < ones = pow_pos (grain - 1) in
-    let rest : (ones - 1) / ones ≡ 0 = div-eq_of_lt (omega (arith, some)) in
-    let same : (address / ones * ones + (ones - 1)) / ones ≡ address / ones =
-    mul-add-div_right some (address / ones) (ones - 1) ∙ omega (arith, rest) in
-    ap (λ (q : ℕ). q * ones + (ones - 1)) same
+napot_again grain address = search (rules, tests, pow_pos, div-eq_of_lt, mul-add-div_right)
 
 pub read_again : (grain : ℕ) (matching : AddressMatching) (address : ℕ)
     → read_address grain matching (read_address grain matching address) ≡ read_address grain matching address

@@ -1,8 +1,8 @@
 -- Harts as numbers.
 use borrow.Author.Tests.{tests}
-use Rattle.std.proofs.Common.{rules, ◌≡◌, ℕ, ◌+◌, ◌*◌, ◌/◌, ◌%◌, ◌^◌, ◌≤◌, true, false, ◌==◌, MatchOption, Option, Some, None}
-use Rattle.std.proofs.Common.{refl, sym, ap, ◌∙◌, inl, inr, arith}
-use Rattle.std.proofs.lemmas.Bool.{cases_Bool, and_parts, or_cases, eqb-true, eq-eqb, ne_eqb, not-true}
+use Rattle.std.proofs.Common.{rules, ◌≡◌, ℕ, ◌+◌, ◌*◌, ◌/◌, ◌%◌, ◌^◌, ◌≤◌, true, false, MatchOption, Option, None}
+use Rattle.std.proofs.Common.{refl, ◌∙◌, arith}
+use Rattle.std.proofs.lemmas.Bool.{and_parts, or_cases, eqb-true, eq-eqb, ne_eqb, not-true}
 use Rattle.pmp_core.specs.Configuration.{bit_of}
 use Rattle.pmp_core.specs.declared.hart.Profile.{Profile}
 use Rattle.pmp_core.specs.Hart.{IsProfile, hart_fault, profile_with, profile_of}
@@ -49,8 +49,7 @@ saved_spelled number is = rw is refl
 pub saved_unspelled : (number : ℕ) → number / 2 ^ 32 ≡ 1 → spells_hart number ≡ false
     → saved_hart number ≡ profile_with 16
 unfolding saved_hart
-saved_unspelled number marked none =
-    rw (none, ne_eqb number 64 (λ same. omega (arith, marked, same))) refl
+saved_unspelled number marked none = search (rules, tests, ne_eqb)
 
 -- ---- which numbers name one
 
@@ -73,8 +72,7 @@ module _ (number : ℕ) (few : number ≡ 16 → ⊥) (many : number ≡ 64 → 
   pub named_spelled : (hart : Option Profile)
       → MatchOption hart (spells_hart number ≡ false) (λ h. (spells_hart number ≡ true) × (h ≡ spelled_hart number))
       → MatchOption hart (names_hart number ≡ false) (λ h. (names_hart number ≡ true) × (h ≡ saved_hart number))
-  named_spelled None none = named_plain ∙ none
-  named_spelled (Some hart) some = (named_plain ∙ some.0, some.1 ∙ sym (saved_spelled number some.0))
+  named_spelled x0 none = search (rules, tests, named_plain, saved_spelled)
 
 -- ---- and each hart has one
 
@@ -82,27 +80,11 @@ parts_back : (n g a s x : ℕ) → n ≤ 64 → g ≤ 10 → a ≤ 56 → s ≤ 
     → (let number = n + 2 ^ 8 * a + 2 ^ 16 * s + 2 ^ 17 * x + 2 ^ 24 * g + 2 ^ 32 in
     (number % 2 ^ 8 ≡ n) × (number / 2 ^ 24 % 2 ^ 8 ≡ g) × (number / 2 ^ 8 % 2 ^ 8 ≡ a) × (number / 2 ^ 16 % 2 ≡ s)
     × (number / 2 ^ 32 ≡ 1) × (number / 2 ^ 18 % 2 ^ 6 ≡ 0) × (number / 2 ^ 17 % 2 ≡ x))
-parts_back n g a s x hn hg ha hs hx =
-    (omega arith, omega arith, omega arith, omega arith, omega arith, omega arith, omega arith)
+parts_back n g a s x hn hg ha hs hx = search (rules, tests)
 
 module _ (profile : Profile) (is : IsProfile profile) where
   usual_back : is_usual profile ≡ true → saved_hart profile.entries ≡ profile
-  usual_back h =
-      let xlen = and_parts _ _ h in
-      let smepmp = and_parts _ _ xlen.0 in
-      let bits = and_parts _ _ smepmp.0 in
-      let grain = and_parts _ _ bits.0 in
-      let rv64 : profile.is_rv32 ≡ false = not-true _ xlen.1 in
-      let has : profile.has_smepmp ≡ true = smepmp.1 in
-      let wide : profile.address_bits ≡ 56 = eqb-true profile.address_bits 56 bits.1 in
-      let fine : profile.grain ≡ 0 = eqb-true profile.grain 0 grain.1 in
-      let whole : profile_with profile.entries ≡ profile = rw (rv64, has, wide, fine) refl in
-      elim (or_cases (profile.entries == 16) (profile.entries == 64) grain.0) [
-        | inl few ↦ let n : profile.entries ≡ 16 = eqb-true profile.entries 16 few in
-            ap saved_hart n ∙ saved_16 ∙ ap profile_with (sym n) ∙ whole
-        | inr many ↦ let n : profile.entries ≡ 64 = eqb-true profile.entries 64 many in
-            ap saved_hart n ∙ saved_64 ∙ ap profile_with (sym n) ∙ whole
-      ]
+  usual_back h = search (rules, tests, and_parts, not-true, eqb-true, or_cases, saved_16, saved_64)
 
   spelled_back : saved_hart (profile.entries + 2 ^ 8 * profile.address_bits + 2 ^ 16 * bit_of profile.has_smepmp
       + 2 ^ 17 * bit_of profile.is_rv32 + 2 ^ 24 * profile.grain + 2 ^ 32) ≡ profile
@@ -111,27 +93,16 @@ module _ (profile : Profile) (is : IsProfile profile) where
 
   pub number_back : saved_hart (hart_number profile) ≡ profile
   unfolding hart_number
-  number_back = elim (cases_Bool (is_usual profile)) [
-    | inl so ↦ rw so (usual_back so)
-    | inr other ↦ rw other spelled_back
-  ]
+  number_back = search (rules, tests, usual_back, spelled_back)
 
   spelled_name : spells_hart (profile.entries + 2 ^ 8 * profile.address_bits + 2 ^ 16 * bit_of profile.has_smepmp
       + 2 ^ 17 * bit_of profile.is_rv32 + 2 ^ 24 * profile.grain + 2 ^ 32) ≡ true
   spelled_name = search (rules, tests)
 
   usual_name : is_usual profile ≡ true → names_hart profile.entries ≡ true
-  usual_name h =
-      let either = (and_parts _ _ (and_parts _ _ (and_parts _ _ (and_parts _ _ h).0).0).0).0 in
-      elim (or_cases (profile.entries == 16) (profile.entries == 64) either) [
-        | inl few ↦ named_16 profile.entries (eqb-true profile.entries 16 few)
-        | inr many ↦ named_64 profile.entries (eqb-true profile.entries 64 many)
-      ]
+  usual_name h = search (rules, tests, and_parts, or_cases, named_16, eqb-true, named_64)
 
   -- the number of a hart names it
   pub named_number : names_hart (hart_number profile) ≡ true
   unfolding hart_number names_hart
-  named_number = elim (cases_Bool (is_usual profile)) [
-    | inl so ↦ rw so (usual_name so)
-    | inr other ↦ rw (other, spelled_name) (search (rules, tests))
-  ]
+  named_number = search (rules, tests, usual_name, spelled_name)

@@ -1,5 +1,6 @@
 -- Entries that are all frozen.
-use Rattle.std.proofs.Common.{◌≡◌, ℕ, ◌+◌, ◌<◌, ◌≤◌, true, List, length, fold, get_or}
+use borrow.Author.Tests.{tests}
+use Rattle.std.proofs.Common.{rules, ◌≡◌, ℕ, ◌+◌, ◌<◌, ◌≤◌, true, List, length, fold, get_or}
 use Rattle.std.proofs.Common.{arith}
 use Rattle.std.specs.List.{list_all, range_with_len}
 use Rattle.std.proofs.lemmas.List.FromFn.{get_or-range_with_len, length-range_with_len}
@@ -20,13 +21,8 @@ held_at file i j within held =
     rw (number_at i j 0 within) at (AllPass-from_list_all (is_frozen file) entries held j 0 inside)
 
 pub held_by_all : (file : RegisterFile) (i : ℕ) → ((j : ℕ) → j ≤ i → is_frozen file j ≡ true) → is_held file i ≡ true
-held_by_all file i all =
-    list_all-from_AllPass (is_frozen file) (range_with_len 0 (i + 1)) (λ k d inside.
-    let within : k ≤ i = omega (arith, length-range_with_len 0 (i + 1)) in
-    rw (number_at i k d within) (all k within))
+held_by_all file i all = search (rules, tests, list_all-from_AllPass, length-range_with_len, number_at)
 
 pub held_still : (file : RegisterFile) (i : ℕ) (events : List Event) → is_held file i ≡ true
     → list_all is_write events ≡ true → is_held (fold step file events) i ≡ true
-held_still file i events held writes =
-    held_by_all (fold step file events) i (λ j within.
-    (lock_law file j events (held_at file i j within held) writes).frozen)
+held_still file i events held writes = search (rules, tests, held_by_all, lock_law, held_at)

@@ -1,19 +1,18 @@
 -- Every step keeps a register file legal, its hart, and as many entries as it has.
 use borrow.Author.Tests.{tests}
-use Rattle.std.proofs.Common.{rules, ◌≡◌, ℕ, ◌-◌, ◌*◌, ◌%◌, ◌<◌, ◌≤◌, Bool, true, false, cond, ◌^◌, sym, ap}
+use Rattle.std.proofs.Common.{rules, ◌≡◌, ℕ, ◌-◌, ◌*◌, ◌%◌, ◌<◌, ◌≤◌, Bool, true, false, cond, sym, ap}
 use Rattle.std.proofs.Common.{List, [], ◌∷◌, fold, length, replicate, slice_index, refl, inl, inr, arith, ◌∙◌}
 use Rattle.std.proofs.Common.{length-set}
 use Rattle.std.proofs.Common.{get_or-set_other, get_or-set_same}
 use Rattle.std.specs.Int.{w64, to_le_bytes}
 use Rattle.std.proofs.Math.ListN.{set}
-use Rattle.std.proofs.lemmas.Bool.{cases_lt, cases_eq, cond_both}
+use Rattle.std.proofs.lemmas.Bool.{cases_lt, cond_both}
 use Rattle.std.proofs.lemmas.List.{get_or_past, get_or-replicate, length-replicate}
 use Rattle.std.proofs.lemmas.List.FromFn.{length-map-range_with_len, get_or-map-range_with_len}
 use Rattle.pmp_core.specs.declared.csr.Csr.{Csr}
 use Rattle.pmp_core.specs.declared.csr.Csr.TheVariants.{Cfg, Addr, Mseccfg, Mseccfgh}
 use Rattle.pmp_core.specs.Entry.{Entry}
 use Rattle.pmp_core.specs.declared.event.Event.{Event}
-use Rattle.pmp_core.specs.declared.event.Event.TheVariants.{Write, Reset}
 use Rattle.std.proofs.Math.Nat.{mod-lt}
 use Rattle.std.proofs.Math.Pow.{pow_pos, pow_mono}
 use Rattle.pmp_core.specs.declared.hart.Profile.{Profile}
@@ -30,24 +29,14 @@ use Rattle.pmp_core.proofs.Grains.{selectable_other}
 -- ---- reset
 
 pub reset_at : (n i : ℕ) → entry_at (replicate n reset_entry) i ≡ reset_entry
-reset_at n i = elim (cases_lt i n) [
-  | inl lt ↦ get_or-replicate n i reset_entry reset_entry lt
-  | inr le ↦ get_or_past (replicate n reset_entry) i reset_entry (omega (arith, length-replicate n reset_entry))
-]
+reset_at n i = search (rules, tests, get_or-replicate, get_or_past, length-replicate)
 
 -- an address register can hold 0
 pub zero_fits : (profile : Profile) → 0 < word_addresses profile
 zero_fits profile = pow_pos (profile.address_bits - 2)
 
 pub reset_legal : (profile : Profile) → IsProfile profile → IsLegal (reset_file profile)
-reset_legal profile is = record {
-  profile = is;
-  count = length-replicate profile.entries reset_entry;
-  words = λ i. rw (reset_at profile.entries i) (zero_fits profile);
-  unreserved = λ off i. rw (reset_at profile.entries i) refl;
-  chosen = λ i. rw (reset_at profile.entries i) (selectable_other profile.grain reset_entry.configuration refl);
-  plain = λ none. refl;
-}
+reset_legal profile is = search (rules, tests, length-replicate, reset_at, zero_fits, selectable_other)
 
 -- no hart has fewer address bits, or more
 most_bits_most : (is_rv32 : Bool) → most_bits is_rv32 ≤ 56
@@ -64,12 +53,7 @@ narrow_bits profile is = omega (arith, is.narrow, most_bits_most profile.is_rv32
 
 -- an address of the hart has no more than 54 bits
 pub legal_addresses : (file : RegisterFile) → IsLegal file → HasAddresses file
-legal_addresses file legal = (
-  legal.profile.fine,
-  λ i. let most : 2 ^ (file.profile.address_bits - 2) ≤ 2 ^ 54 =
-      pow_mono {i = file.profile.address_bits - 2} {j = 54} (omega (arith, narrow_bits file.profile legal.profile)) in
-      omega (arith, legal.words i),
-)
+legal_addresses file legal = search (rules, tests, pow_mono, narrow_bits)
 
 -- ---- a configuration
 
@@ -96,16 +80,7 @@ configured_place file q value i inside =
 
 pub length-written : (file : RegisterFile) (csr : Csr) (value : ℕ)
     → length (written file csr value).entries ≡ length file.entries
-length-written file (Cfg q) value = length-map-range_with_len (configured file q value) 0 (length file.entries)
-length-written file (Addr i) value = elim (is_address_frozen file i) as
-    (λ frozen. length (cond frozen file.entries (set file.entries i (record (entry_at file.entries i) {
-      address = value % word_addresses file.profile;
-    }))) ≡ length file.entries) [
-      | true ↦ refl
-      | false ↦ simp length-set
-    ]
-length-written file Mseccfg value = refl
-length-written file Mseccfgh value = refl
+length-written file x1 value = search (rules, tests, length-map-range_with_len, length-set)
 
 -- the hart is kept
 pub profile-written : (file : RegisterFile) (csr : Csr) (value : ℕ) → (written file csr value).profile ≡ file.profile
@@ -118,8 +93,7 @@ IsLegalEntry profile mml entry =
     × (selectable profile.grain entry.configuration ≡ entry.configuration)
 
 reset_entry_legal : (profile : Profile) (mml : Bool) → IsLegalEntry profile mml reset_entry
-reset_entry_legal profile mml =
-    (zero_fits profile, λ off. refl, selectable_other profile.grain reset_entry.configuration refl)
+reset_entry_legal profile mml = search (rules, tests, zero_fits, selectable_other)
 
 module _ (file : RegisterFile) (legal : IsLegal file) where
   legal_place : (i : ℕ) → IsLegalEntry file.profile file.mseccfg.mml (entry_at file.entries i)
@@ -143,18 +117,8 @@ module _ (file : RegisterFile) (legal : IsLegal file) where
       → IsLegalEntry file.profile file.mseccfg.mml (entry_at (set file.entries j (record (entry_at file.entries j) {
         address = value % word_addresses file.profile;
       })) i)
-  addressed_legal j value i = elim (cases_lt i (length file.entries)) [
-    | inr over ↦ past _ i (simp length-set over)
-    | inl inside ↦ elim (cases_eq i j) [
-      | inl same ↦ let here : j < length file.entries = omega arith in
-          rw same (rw get_or-set_same (
-            mod-lt value (zero_fits file.profile),
-            λ off. legal.unreserved off j,
-            legal.chosen j,
-          ))
-      | inr other ↦ rw get_or-set_other (legal_place i)
-    ]
-  ]
+  addressed_legal j value i =
+      search (rules, tests, past, length-set, get_or-set_same, mod-lt, zero_fits, get_or-set_other, legal_place)
 
   written_legal : (csr : Csr) (value i : ℕ)
       → IsLegalEntry file.profile file.mseccfg.mml (entry_at (written file csr value).entries i)
@@ -182,20 +146,11 @@ module _ (file : RegisterFile) (legal : IsLegal file) where
   still_plain csr value none = search (rules, tests)
 
   pub step_legal : (event : Event) → IsLegal (step file event)
-  step_legal Reset = reset_legal file.profile legal.profile
-  step_legal (Write csr value) = record {
-    profile = rw (profile-written file csr value) legal.profile;
-    count = length-written file csr value ∙ legal.count ∙ ap (λ (p : Profile). p.entries)
-        (sym (profile-written file csr value));
-    words = λ i. rw (profile-written file csr value) (written_legal csr value i).0;
-    unreserved = λ off i. (written_legal csr value i).1 (was_off csr value off);
-    chosen = λ i. rw (profile-written file csr value) (written_legal csr value i).2;
-    plain = λ none. still_plain csr value (rw (profile-written file csr value) at none);
-  }
+  step_legal x0 =
+      search (rules, tests, reset_legal, profile-written, length-written, written_legal, was_off, still_plain)
 
 pub profile-step : (file : RegisterFile) (event : Event) → (step file event).profile ≡ file.profile
-profile-step file Reset = refl
-profile-step file (Write csr value) = profile-written file csr value
+profile-step file x1 = search (rules, tests, profile-written)
 
 pub profile-fold : (file : RegisterFile) (events : List Event) → (fold step file events).profile ≡ file.profile
 profile-fold file [] = refl
@@ -203,8 +158,7 @@ profile-fold file (event ∷ events) = profile-fold (step file event) events ∙
 
 pub length-step : (file : RegisterFile) → length file.entries ≡ file.profile.entries → (event : Event)
     → length (step file event).entries ≡ length file.entries
-length-step file count Reset = length-replicate file.profile.entries reset_entry ∙ sym count
-length-step file count (Write csr value) = length-written file csr value
+length-step file count x2 = search (rules, tests, length-replicate, length-written)
 
 pub length-fold : (file : RegisterFile) → length file.entries ≡ file.profile.entries → (events : List Event)
     → length (fold step file events).entries ≡ length file.entries

@@ -1,23 +1,21 @@
 -- A frozen entry stays as it is, write by write.
 use borrow.Author.Tests.{tests}
-use Rattle.std.proofs.Common.{rules, ◌≡◌, ◌≢◌, ◌↔◌, ℕ, zero, suc, ◌<◌, true, false, cond, not, ◌||◌, List, [], ◌∷◌}
-use Rattle.std.proofs.Common.{length, fold, ◌/◌, ◌%◌, ◌==◌, refl, ap, ◌∙◌, inl}
-use Rattle.std.proofs.Common.{inr, arith}
+use Rattle.std.proofs.Common.{rules, ◌≡◌, ◌≢◌, ◌↔◌, ℕ, suc, ◌<◌, true, false, List, [], ◌∷◌}
+use Rattle.std.proofs.Common.{length, fold, refl}
 use Rattle.std.specs.List.{list_all}
-use Rattle.std.proofs.lemmas.Bool.{and_parts, and_right, cases_lt, false≢true, not-true}
+use Rattle.std.proofs.lemmas.Bool.{and_parts, and_right, false≢true, not-true}
 use Rattle.std.proofs.lemmas.List.{get_or_past}
 use Rattle.std.proofs.lemmas.List.Folds.{list_any_at}
 use Rattle.pmp_core.specs.declared.configuration.AddressMatching.{AddressMatching}
 use Rattle.pmp_core.specs.declared.csr.Csr.{Csr}
-use Rattle.pmp_core.specs.declared.csr.Csr.TheVariants.{Cfg, Addr, Mseccfg, Mseccfgh}
+use Rattle.pmp_core.specs.declared.csr.Csr.TheVariants.{Cfg}
 use Rattle.pmp_core.specs.Entry.{Entry}
 use Rattle.pmp_core.specs.declared.event.Event.{Event}
 use Rattle.pmp_core.specs.declared.event.Event.TheVariants.{Write, Reset}
-use Rattle.pmp_core.specs.Mseccfg.{mseccfg_written}
-use Rattle.pmp_core.specs.RegisterFile.{RegisterFile, reset_entry, entry_at, is_frozen}
+use Rattle.pmp_core.specs.RegisterFile.{RegisterFile, entry_at, is_frozen}
 use Rattle.pmp_core.specs.Matching.{low_address, MatchesBy, Matches}
 use Rattle.pmp_core.specs.RegisterWrite.{configured, is_tor, is_address_frozen, address_written}
-use Rattle.pmp_core.specs.RegisterWrite.{is_any_locked, written, step}
+use Rattle.pmp_core.specs.RegisterWrite.{written, step}
 use Rattle.pmp_core.specs.LockLaw.{LockLaw}
 use Rattle.pmp_core.specs.Histories.{is_write}
 use Rattle.pmp_core.proofs.Legal.{configured_place}
@@ -44,8 +42,7 @@ other_address file j value k other = search (rules, tests)
 pub low_kept : (before after : List Entry) (i : ℕ)
     → ((k : ℕ) → suc k ≡ i → (entry_at after k).address ≡ (entry_at before k).address)
     → low_address after i ≡ low_address before i
-low_kept before after zero h = refl
-low_kept before after (suc k) h = h k refl
+low_kept before after x2 h = search (rules, tests)
 
 module _ (file : RegisterFile) (i : ℕ) (frozen : is_frozen file i ≡ true) where
   locked : (entry_at file.entries i).configuration.locked ≡ true
@@ -55,10 +52,7 @@ module _ (file : RegisterFile) (i : ℕ) (frozen : is_frozen file i ≡ true) wh
   no_bypass = not-true _ (and_parts _ _ frozen).1
 
   inside : i < length file.entries
-  inside = elim (cases_lt i (length file.entries)) [
-    | inl lt ↦ lt
-    | inr past ↦ absurd (false≢true (rw (get_or_past file.entries i reset_entry past) at locked))
-  ]
+  inside = search (rules, tests, false≢true, get_or_past, locked)
 
   configured_frozen : (q value : ℕ) → configured file q value i ≡ entry_at file.entries i
   configured_frozen q value = search (rules, tests)
@@ -76,30 +70,8 @@ module _ (file : RegisterFile) (i : ℕ) (frozen : is_frozen file i ≡ true) wh
   after_address j value = search (rules, tests)
 
   after_write : (csr : Csr) (value : ℕ) → Held file (written file csr value) i
-  after_write (Cfg q) value = record {
-    entry = configured_place file q value i inside ∙ configured_frozen q value;
-    low = λ tor. low_kept file.entries (written file (Cfg q) value).entries i
-        (λ k above. low_configured k q value (omega (arith, inside, above)));
-    bypass = no_bypass;
-    hart = refl;
-  }
-  after_write (Addr j) value = after_address j value
-  after_write Mseccfg value = record {
-    entry = refl;
-    low = λ tor. refl;
-    bypass = elim file.profile.has_smepmp as
-        (λ has. (cond has (mseccfg_written file.mseccfg (is_any_locked file.entries) value) file.mseccfg).rlb ≡ false) [
-          | true ↦ and_right (value / 4 % 2 == 1) (file.mseccfg.rlb || not (is_any_locked file.entries))
-              (rw (
-                no_bypass,
-                list_any_at (λ (entry : Entry). entry.configuration.locked) file.entries i reset_entry inside
-                    locked,
-              ) refl)
-          | false ↦ no_bypass
-        ];
-    hart = refl;
-  }
-  after_write Mseccfgh value = record { entry = refl; low = λ tor. refl; bypass = no_bypass; hart = refl }
+  after_write x0 value =
+      search (rules, tests, configured_place, inside, configured_frozen, low_kept, low_configured, no_bypass, after_address, and_right, list_any_at, locked)
 
 -- ---- any writes
 
@@ -108,12 +80,7 @@ pub still_frozen : (before after : RegisterFile) (i : ℕ) → is_frozen before 
 still_frozen before after i frozen held = rw (held.entry, held.bypass, locked before i frozen) refl
 
 held_then : (a b c : RegisterFile) (i : ℕ) → Held a b i → Held b c i → Held a c i
-held_then a b c i first second = record {
-  entry = second.entry ∙ first.entry;
-  low = λ tor. second.low (rw first.entry tor) ∙ first.low tor;
-  bypass = second.bypass;
-  hart = second.hart ∙ first.hart;
-}
+held_then a b c i first second = search (rules, tests)
 
 pub held_on : (file : RegisterFile) (i : ℕ) (events : List Event) → is_frozen file i ≡ true
     → list_all is_write events ≡ true → Held file (fold step file events) i
@@ -136,10 +103,4 @@ held_bytes : (before after : RegisterFile) (i byte : ℕ) → Held before after 
 held_bytes before after i byte held = search (rules, tests)
 
 pub lock_law : LockLaw
-lock_law file i events frozen writes =
-    let held = held_on file i events frozen writes in
-    record {
-      configuration = ap (λ (entry : Entry). entry.configuration) held.entry;
-      bytes = λ byte. held_bytes file (fold step file events) i byte held;
-      frozen = still_frozen file (fold step file events) i frozen held;
-    }
+lock_law file i events frozen writes = search (rules, tests, held_on, held_bytes, still_frozen)

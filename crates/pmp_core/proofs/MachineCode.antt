@@ -1,31 +1,31 @@
 -- Where machine mode executes under lockdown.
+use borrow.Author.Tests.{tests}
 use Rattle.std.proofs.Common.{nat_lt, ◌≡◌, ℕ, ◌≤◌, ◌%◌, ◌-◌, ◌*◌, Bool, true, false, cond, ◌&&◌, List, [], ◌∷◌, fold, length}
-use Rattle.std.proofs.Common.{rules, slice_index, refl, sym, ap, ◌∙◌, inl, inr, arith, get_or-set_same, length-set}
+use Rattle.std.proofs.Common.{rules, slice_index, refl, ap, inl, inr, get_or-set_same, length-set}
 use Rattle.std.specs.List.{list_all}
 use Rattle.std.specs.Int.{w64, to_le_bytes}
 use Rattle.std.proofs.Math.ListN.{set}
-use Rattle.std.proofs.lemmas.Bool.{and_parts, cases_lt, cases_eq, false≢true, not-true}
+use Rattle.std.proofs.lemmas.Bool.{and_parts, cases_eq, false≢true, not-true}
 use Rattle.std.proofs.lemmas.List.{get_or_past}
 use Rattle.pmp_core.specs.declared.access.Access.{Access}
 use Rattle.pmp_core.specs.declared.access.Kind.TheVariants.{Fetch}
 use Rattle.pmp_core.specs.declared.access.Mode.TheVariants.{M}
-use Rattle.pmp_core.specs.declared.configuration.AddressMatching.TheVariants.{Off}
 use Rattle.pmp_core.specs.declared.csr.Csr.{Csr}
-use Rattle.pmp_core.specs.declared.csr.Csr.TheVariants.{Cfg, Addr, Mseccfg, Mseccfgh}
+use Rattle.pmp_core.specs.declared.csr.Csr.TheVariants.{Addr}
 use Rattle.pmp_core.specs.declared.decision.Cause.{Cause}
-use Rattle.pmp_core.specs.declared.decision.Cause.TheVariants.{Rule, Split, NoMatch}
+use Rattle.pmp_core.specs.declared.decision.Cause.TheVariants.{Rule}
 use Rattle.pmp_core.specs.Entry.{Entry}
 use Rattle.pmp_core.specs.declared.event.Event.{Event}
 use Rattle.pmp_core.specs.declared.event.Event.TheVariants.{Write, Reset}
 use Rattle.pmp_core.specs.Hart.{word_addresses}
 use Rattle.pmp_core.specs.Configuration.{Configuration, configuration_of}
 use Rattle.pmp_core.specs.Decision.{IsDecisionBy}
-use Rattle.pmp_core.specs.RegisterFile.{RegisterFile, reset_entry, entry_at, is_frozen}
-use Rattle.pmp_core.specs.Grain.{is_na4, selectable}
+use Rattle.pmp_core.specs.RegisterFile.{RegisterFile, entry_at, is_frozen}
+use Rattle.pmp_core.specs.Grain.{selectable}
 use Rattle.pmp_core.specs.Hart.{holds_byte_of}
 use Rattle.pmp_core.specs.RegisterWrite.{admitted, configured, is_address_frozen, step, stored_over}
 use Rattle.pmp_core.specs.RegisterWrite.{written}
-use Rattle.pmp_core.specs.Rights.{allows, has_entries, default_rights_by, is_barred, lockdown_rights, rule_rights}
+use Rattle.pmp_core.specs.Rights.{allows, default_rights_by, is_barred, lockdown_rights, rule_rights}
 use Rattle.pmp_core.specs.LockLaw.{StaysFrozen}
 use Rattle.pmp_core.specs.Histories.{is_write}
 use Rattle.pmp_core.specs.ProtectionLaw.{MachineCodeLaw}
@@ -62,17 +62,10 @@ stored_barred grain old byte h = by_test (old.locked && true) h
     admits = admitted true false old (configuration_of byte)
 
     selected : is_barred_rule (selectable grain admits) ≡ is_barred_rule admits
-    selected = elim (nat_lt 0 grain && is_na4 admits.matching) as
-        (λ (coarse : Bool). is_barred_rule (cond coarse (record admits { matching = Off }) admits)
-        ≡ is_barred_rule admits) [
-          | true ↦ refl
-          | false ↦ refl
-        ]
+    selected = search (rules, tests, nat_lt, admits)
 
     by_test : (kept : Bool) → is_barred_rule (cond kept old (selectable grain admits)) ≡ true → is_barred_rule old ≡ true
-    by_test true h = h
-    by_test false h =
-        kept_barred old (configuration_of byte) (is_barred_rule (configuration_of byte)) refl (sym selected ∙ h)
+    by_test x0 h = search (rules, tests, kept_barred, selected)
 
 module _ (file : RegisterFile) (mml : file.mseccfg.mml ≡ true) (rlb : file.mseccfg.rlb ≡ false) (i : ℕ) where
   configured_barred : (q value : ℕ) → is_barred_rule (configured file q value i).configuration ≡ true
@@ -89,21 +82,12 @@ module _ (file : RegisterFile) (mml : file.mseccfg.mml ≡ true) (rlb : file.mse
 
   nothing_barred : (csr : Csr) (value : ℕ) → length file.entries ≤ i
       → is_barred_rule (entry_at (written file csr value).entries i).configuration ≡ true → ⊥
-  nothing_barred csr value past h = false≢true (rw (get_or_past (written file csr value).entries i reset_entry
-      (omega (arith, length-written file csr value))) at h)
+  nothing_barred csr value past h = search (rules, tests, false≢true, get_or_past, length-written)
 
   own_configuration : (address : ℕ)
       → (entry_at (set file.entries i (record (entry_at file.entries i) { address = address })) i).configuration
       ≡ (entry_at file.entries i).configuration
-  own_configuration address =
-      let new : Entry = record (entry_at file.entries i) { address = address } in
-      elim (cases_lt i (length file.entries)) [
-        | inl inside ↦ rw get_or-set_same refl
-        | inr past ↦ rw (
-          get_or_past (set file.entries i new) i reset_entry (simp length-set past),
-          get_or_past file.entries i reset_entry past,
-        ) refl
-      ]
+  own_configuration address = search (rules, tests, get_or-set_same, get_or_past, length-set)
 
   addressed_configuration : (j value : ℕ) → (entry_at (written file (Addr j) value).entries i).configuration
       ≡ (entry_at file.entries i).configuration
@@ -121,13 +105,8 @@ module _ (file : RegisterFile) (mml : file.mseccfg.mml ≡ true) (rlb : file.mse
   was_barred : (csr : Csr) (value : ℕ)
       → is_barred_rule (entry_at (written file csr value).entries i).configuration ≡ true
       → is_barred_rule (entry_at file.entries i).configuration ≡ true
-  was_barred (Cfg q) value h = elim (cases_lt i (length file.entries)) [
-    | inl inside ↦ configured_barred q value (rw (configured_place file q value i inside) at h)
-    | inr past ↦ absurd (nothing_barred (Cfg q) value past h)
-  ]
-  was_barred (Addr j) value h = rw (addressed_configuration j value) at h
-  was_barred Mseccfg value h = h
-  was_barred Mseccfgh value h = h
+  was_barred x0 value h =
+      search (rules, tests, configured_barred, configured_place, nothing_barred, addressed_configuration)
 
 -- ---- nor do several writes
 
@@ -164,12 +143,7 @@ module _ (file : RegisterFile) (k : ℕ) (events : List Event) (mml : file.msecc
 
   by_frozen : (allowed : Bool) (cause : Cause) → IsDecisionBy later access allowed cause → allowed ≡ true
       → (i : ℕ) × (cause ≡ Rule i) × (is_frozen file i ≡ true) × StaysFrozen file later i
-  by_frozen allowed NoMatch (none, by_default) granted = absurd (none_by_default (has_entries later) later.mseccfg.mmwp
-      (rw (mml_stays file events writes mml, machine, fetch) at (sym by_default ∙ granted)))
-  by_frozen allowed (Split i) (decider, lacks, refused) granted = absurd (false≢true (sym refused ∙ granted))
-  by_frozen allowed (Rule i) (decider, all, by_rule) granted =
-      let own = was_frozen i (sym by_rule ∙ granted) in
-      (i, refl, own, lock_law file i events own writes)
+  by_frozen allowed x1 x2 granted = search (rules, tests, none_by_default, mml_stays, false≢true, was_frozen, lock_law)
 
 pub machine_code_law : MachineCodeLaw
 machine_code_law file k events mml frozen writes access decision machine fetch is granted =

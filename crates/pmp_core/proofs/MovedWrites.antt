@@ -1,5 +1,6 @@
 -- What a write to the numbers of a unit moved.
-use Rattle.std.proofs.Common.{◌≡◌, ℕ, ◌+◌, false, Option, None, refl, sym, ap, ◌∙◌, inl, inr, arith}
+use borrow.Author.Tests.{tests}
+use Rattle.std.proofs.Common.{rules, ◌≡◌, ℕ, ◌+◌, false, Option, None, refl, sym, ap, ◌∙◌, inl, inr, arith}
 use Rattle.std.proofs.lemmas.Bool.{cases_Bool, cases_eq, cases_lt, eq-eqb}
 use Rattle.std.proofs.lemmas.List.{get_or_past}
 use Rattle.std.proofs.Common.{get_or-set_same, length, length-set, slice_set, ◌%◌}
@@ -26,16 +27,14 @@ use Rattle.pmp_core.proofs.Saved.{restored_legal}
 module _ (old new : SavedRegisters) (csr : Csr) (value : ℕ) (answer : Written)
     (is : IsWritten old new csr value answer) where
   pub hart_kept : hart_in new ≡ hart_in old
-  hart_kept = sym (profile_in new) ∙ ap (λ (f : RegisterFile). f.profile) is.stored.file
-      ∙ profile-written (restored_file old) csr value ∙ profile_in old
+  hart_kept = search (rules, tests, profile_in, profile-written)
 
   pub none_moved : answer.is_changed ≡ false → None ≡ moved_by (restored_file old) (restored_file new) csr
   none_moved same = rw (is.stored.same same) (sym (none_by (restored_file old) csr))
 
   pub beside_written : (moved : Option Span) → moved ≡ moved_by (restored_file old) (restored_file new) csr
       → AreAlikeBeside (restored_file old) (restored_file new) moved
-  beside_written moved = beside_by (restored_file old) (restored_file new) csr (value, is.stored.file) moved
-      (restored_legal old)
+  beside_written moved = search (rules, tests, beside_by, restored_legal)
 
 -- ---- an address register
 
@@ -73,7 +72,4 @@ pub address_moved : (file after : RegisterFile) (j value : ℕ) → after ≡ wr
     → joined (moved_between (range_of file j) (range_of after j))
     (moved_between (range_of file (j + 1)) (range_of after (j + 1))) ≡ moved_by file after (Addr j)
 unfolding moved_by
-address_moved file after j value is =
-    let kept : (k : ℕ) → (entry_at after.entries k).configuration ≡ (entry_at file.entries k).configuration =
-    λ k. rw is (configuration_kept file j value k) in
-    sym (two_among file after j ∙ rw (same_at file after j (kept j), same_at file after (j + 1) (kept (j + 1))) refl)
+address_moved file after j value is = search (rules, tests, configuration_kept, two_among, same_at)

@@ -1,9 +1,8 @@
 -- What two register files decide alike.
 use borrow.Author.Tests.{tests}
 use Rattle.std.proofs.Common.{◌≡◌, ◌≢◌, ℕ, zero, suc, ◌+◌, ◌-◌, ◌*◌, ◌<◌, ◌≤◌, Option, None, length, sym, ap, ◌∙◌, inl, inr}
-use Rattle.std.proofs.Common.{arith, rules, ◌==◌, Bool, ◌&&◌, eqb, false, not, refl, true}
+use Rattle.std.proofs.Common.{arith, rules, ◌==◌, ◌&&◌, eqb, false, not, refl, true}
 use Rattle.std.specs.Bool.{beq}
-use Rattle.std.specs.Cmp.{booleans_Decides}
 use Rattle.std.proofs.lemmas.Bool.{and_parts, cases_Bool, cases_lt, eqb-true, not-false, or_cases}
 use Rattle.std.proofs.lemmas.List.{get_or_past}
 use native.Mathlib.Numerals.{unary_clauses}
@@ -15,9 +14,8 @@ use Rattle.pmp_core.specs.declared.event.Event.TheVariants.{Write}
 use Rattle.pmp_core.specs.declared.mseccfg.MseccfgFields.{MseccfgFields}
 use Rattle.pmp_core.specs.declared.range.ByteRange.{ByteRange}
 use Rattle.pmp_core.specs.declared.span.Span.{Span}
-use Rattle.pmp_core.specs.Configuration.{Configuration, byte_of, configuration_of}
+use Rattle.pmp_core.specs.Configuration.{Configuration, byte_of}
 use Rattle.pmp_core.specs.Decision.{IsByteOf}
-use Rattle.pmp_core.specs.Entry.{Entry}
 use Rattle.pmp_core.specs.declared.hart.Profile.{Profile}
 use Rattle.pmp_core.specs.Matching.{Matches, low_address}
 use Rattle.pmp_core.specs.Hart.{bytes_in}
@@ -26,7 +24,7 @@ use Rattle.pmp_core.specs.Moved.{moved_among, moved_at, moved_by}
 use Rattle.pmp_core.specs.Mseccfg.{mseccfg_fields}
 use Rattle.pmp_core.specs.OthersLaw.{may_move}
 use Rattle.pmp_core.specs.Ranges.{range_of, range_on}
-use Rattle.pmp_core.specs.RegisterFile.{HasAddresses, IsLegal, RegisterFile, entry_at, reset_entry}
+use Rattle.pmp_core.specs.RegisterFile.{HasAddresses, IsLegal, RegisterFile, entry_at}
 use Rattle.pmp_core.specs.RegisterValue.{register_value}
 use Rattle.pmp_core.specs.RegisterWrite.{is_tor, written}
 use Rattle.pmp_core.specs.Rights.{has_entries}
@@ -54,65 +52,29 @@ span_has file i byte span is inside matches = search rules
 -- ---- entries
 
 pub same_configuration : (one other : Configuration) → eqb (byte_of one) (byte_of other) ≡ true → one ≡ other
-same_configuration one other same =
-    sym (configuration_back one) ∙ ap configuration_of (eqb-true _ _ same) ∙ configuration_back other
+same_configuration one other same = search (rules, tests, configuration_back, eqb-true)
 
 pub same_range : (one other : ByteRange) → (eqb one.start other.start && eqb one.end other.end) ≡ true → one ≡ other
-same_range one other same =
-    let both = and_parts _ _ same in
-    ap (λ (n : ℕ). record { start = n; end = one.end }) (eqb-true _ _ both.0)
-    ∙ ap (λ (n : ℕ). record { start = other.start; end = n }) (eqb-true _ _ both.1)
+same_range one other same = search (rules, tests, and_parts, eqb-true)
 
 pub same_fields : (one other : MseccfgFields)
     → not (beq one.mml other.mml && (beq one.mmwp other.mmwp && beq one.rlb other.rlb)) ≡ false → one ≡ other
-same_fields one other same =
-    let all = and_parts _ _ (not-false _ same) in
-    let rest = and_parts _ _ all.1 in
-    ap (λ (b : Bool). record { mml = b; mmwp = one.mmwp; rlb = one.rlb }) ((booleans_Decides _ _).0 all.0)
-    ∙ ap (λ (b : Bool). record { mml = other.mml; mmwp = b; rlb = one.rlb }) ((booleans_Decides _ _).0 rest.0)
-    ∙ ap (λ (b : Bool). record { mml = other.mml; mmwp = other.mmwp; rlb = b }) ((booleans_Decides _ _).0 rest.1)
+same_fields one other same = search (rules, tests, and_parts, not-false)
 
 pub same_profile : (one other : Profile)
     → not (eqb one.entries other.entries && (eqb one.grain other.grain && (eqb one.address_bits other.address_bits
     && (beq one.has_smepmp other.has_smepmp && beq one.is_rv32 other.is_rv32)))) ≡ false → one ≡ other
-same_profile one other same =
-    let all = and_parts _ _ (not-false _ same) in
-    let rest = and_parts _ _ all.1 in
-    let wide = and_parts _ _ rest.1 in
-    let last = and_parts _ _ wide.1 in
-    let entries = eqb-true _ _ all.0 in
-    let grain = eqb-true _ _ rest.0 in
-    let bits = eqb-true _ _ wide.0 in
-    let smepmp = (booleans_Decides _ _).0 last.0 in
-    let rv32 = (booleans_Decides _ _).0 last.1 in
-    (λ i. record {
-      entries = entries i;
-      grain = grain i;
-      address_bits = bits i;
-      has_smepmp = smepmp i;
-      is_rv32 = rv32 i;
-    })
+same_profile one other same = search (rules, tests, and_parts, not-false, eqb-true)
 
 module _ (one other : RegisterFile) (i : ℕ) where
   pub same_entry : IsLegal one → IsLegal other
       → (entry_at other.entries i).configuration ≡ (entry_at one.entries i).configuration
       → range_of other i ≡ range_of one i → IsSameEntry one other i
-  same_entry legal too configuration range = (
-    configuration,
-    λ byte.
-        let here = matches_range other i byte (legal_addresses other too) in
-        let there = matches_range one i byte (legal_addresses one legal) in (
-          (λ matches. there.1 (rw range at (here.0 matches))),
-          (λ matches. here.1 (rw (← range) at (there.0 matches))),
-        ),
-  )
+  same_entry legal too configuration range = search (rules, tests, matches_range, legal_addresses)
 
   pub moved_within : (before now : Option Span) → IsSpan one i before → IsSpan other i now
       → IsMovedWithin one other (joined now before) i
-  moved_within before now was is = inr (λ byte inside stays. (
-    (λ matches. stays (joined_right now before byte (span_has one i byte before was inside matches))),
-    (λ matches. stays (joined_left now before byte (span_has other i byte now is inside matches))),
-  ))
+  moved_within before now was is = search (rules, tests, joined_right, span_has, joined_left)
 
   more_moved : (moved more : Option Span) → ((byte : ℕ) → IsMoved moved byte → IsMoved more byte)
       → IsMovedWithin one other moved i → IsMovedWithin one other more i
@@ -133,10 +95,7 @@ module _ (one other : RegisterFile) (i : ℕ) where
 
 -- an entry that a file doesn't have matches nothing
 absent : (file : RegisterFile) (i byte : ℕ) → IsLegal file → length file.entries ≤ i → ¬ (Matches file i byte)
-absent file i byte legal past matches =
-    let here = (matches_range file i byte (legal_addresses file legal)).0 matches in
-    let none = rw (range_past file i past) at here in
-    absurd (omega (arith, none.1))
+absent file i byte legal past matches = search (rules, tests, matches_range, legal_addresses, range_past)
 
 -- ---- decisions
 
@@ -154,15 +113,7 @@ module _ (one other : RegisterFile) (legal : IsLegal one) (too : IsLegal other) 
 
   module _ (access : Access) (clear : (byte : ℕ) → IsByteOf access byte → ¬ (IsMoved moved byte)) where
     same : (i : ℕ) → IsSame one other access i
-    same i = elim (within i) [
-      | inl is ↦ inr is
-      | inr apart ↦
-          let inside = access.inside in
-          inl (
-            (λ (byte, here, matches). (apart byte (omega arith) (clear byte here)).0 matches),
-            (λ (byte, here, matches). (apart byte (omega arith) (clear byte here)).1 matches),
-          )
-    ]
+    same i = search (rules, tests, within)
 
   some : has_entries other ≡ has_entries one
   some = rw count refl
@@ -190,18 +141,11 @@ module _ (one other : RegisterFile) where
   -- an entry that neither has
   pub past_at : (i : ℕ) → length one.entries ≤ i → length other.entries ≤ i → moved_at one other i ≡ None
   unfolding moved_at
-  past_at i past too =
-      rw (
-        range_past one i past,
-        range_past other i too,
-        get_or_past one.entries i reset_entry past,
-        get_or_past other.entries i reset_entry too,
-      ) refl
+  past_at i past too = search (rules, tests, range_past, get_or_past)
 
   module _ (legal : IsLegal one) (too : IsLegal other) where
     ranged : (i : ℕ) → IsMovedWithin one other (joined (span_in (range_of other i)) (span_in (range_of one i))) i
-    ranged i = moved_within one other i (span_in (range_of one i)) (span_in (range_of other i))
-        (span_seen one i (legal_addresses one legal)) (span_seen other i (legal_addresses other too))
+    ranged i = search (rules, tests, moved_within, span_seen, legal_addresses)
 
     pub within_at : (i : ℕ) → IsMovedWithin one other (moved_at one other i) i
     unfolding moved_at
@@ -244,10 +188,7 @@ none_among file first (suc count) = rw (none_among file first count, none_at fil
 -- where nothing changed
 pub none_by : (file : RegisterFile) (csr : Csr) → moved_by file file csr ≡ None
 unfolding moved_by
-none_by file (Cfg q) = none_among file (4 * q) (bytes_in file.profile q)
-none_by file (Addr i) = none_among file i 2
-none_by file Mseccfg = search (rules, tests)
-none_by file Mseccfgh = refl
+none_by file x1 = search (rules, tests, none_among)
 
 -- the entries that the register may move
 moved_place : (file : RegisterFile) (q i : ℕ) → may_move file (Cfg q) i ≡ true
@@ -263,10 +204,7 @@ module _ (file : RegisterFile) (value : ℕ) (legal : IsLegal file) where
     legal_after = step_legal file legal (Write csr value)
 
     left : (moved : Option Span) (i : ℕ) → may_move file csr i ≡ false → IsMovedWithin file after moved i
-    left moved i stays = inl (
-      ap (λ (entry : Entry). entry.configuration) (entry_kept file value csr i (holds_none file value csr i stays)),
-      λ byte. bytes_kept file value csr i byte stays,
-    )
+    left moved i stays = search (rules, tests, entry_kept, holds_none, bytes_kept)
 
     by_places : (moved : Option Span) → csr ≢ Mseccfg
         → ((i : ℕ) → may_move file csr i ≡ true → IsMovedWithin file after moved i) → AreAlikeBeside file after moved

@@ -1,14 +1,13 @@
 -- mseccfg is stored as written exactly where there is no reason.
 use borrow.Author.Tests.{tests}
 use Rattle.std.proofs.Common.{rules, ◌≡◌, ℕ, ◌+◌, ◌*◌, ◌/◌, ◌%◌, ◌<◌, Bool, true, false, not}
-use Rattle.std.proofs.Common.{◌&&◌, ◌||◌, ◌==◌, refl, sym, ap, ◌∙◌, inl, inr}
-use Rattle.std.proofs.lemmas.Bool.{cases_Bool, and_right, or_from}
+use Rattle.std.proofs.Common.{◌&&◌, ◌||◌, ◌==◌, refl}
+use Rattle.std.proofs.lemmas.Bool.{and_right, or_from}
 use Rattle.pmp_core.specs.declared.csr.Csr.TheVariants.{Mseccfg, Mseccfgh}
-use Rattle.pmp_core.specs.declared.write_reasons.WriteReason.TheVariants.{Frozen, Tor, Reserved, Lockdown, Grain}
 use Rattle.pmp_core.specs.Configuration.{bit_of}
 use Rattle.pmp_core.specs.declared.mseccfg.MseccfgFields.{MseccfgFields}
 use Rattle.pmp_core.specs.Mseccfg.{mseccfg_value, mseccfg_written}
-use Rattle.pmp_core.specs.RegisterFile.{RegisterFile, reset_mseccfg, is_frozen, IsLegal}
+use Rattle.pmp_core.specs.RegisterFile.{RegisterFile, reset_mseccfg, IsLegal}
 use Rattle.pmp_core.specs.RegisterValue.{register_value}
 use Rattle.pmp_core.specs.RegisterWrite.{is_any_locked, written}
 use Rattle.pmp_core.proofs.EachReason.{none_at_entries, HasNone}
@@ -54,39 +53,14 @@ module _ (file : RegisterFile) (legal : IsLegal file) (value : ℕ) where
 
   reasonless_there : file.profile.has_smepmp ≡ true → mseccfg_value new ≡ value → HasNone file Mseccfg value
   reasonless_there has same =
-      let each = bits_of_value (file.mseccfg.mml || (value % 2 == 1)) (file.mseccfg.mmwp || (value / 2 % 2 == 1))
-      ((value / 4 % 2 == 1) && (file.mseccfg.rlb || not (is_any_locked file.entries))) value same in
-      record {
-        absent = rw has (and_right _ false refl);
-        bits = rw has (not_same (value / 8) 0 each.3);
-        frozen = none_at_entries Frozen file Mseccfg value (λ k inside. and_right (is_frozen file k) false refl);
-        tor = none_at_entries Tor file Mseccfg value (λ k inside. refl);
-        reserved = none_at_entries Reserved file Mseccfg value (λ k inside. refl);
-        lockdown = none_at_entries Lockdown file Mseccfg value (λ k inside. refl);
-        sticky = or_from _ _ (was_kept _ _ each.0) (was_kept _ _ each.1);
-        bypass = rw has (has_risen _ _ _ each.2);
-        grain = none_at_entries Grain file Mseccfg value (λ k inside. refl);
-      }
+      search (rules, tests, bits_of_value, and_right, not_same, none_at_entries, or_from, was_kept, has_risen)
 
   -- without Smepmp nothing but zero is stored, and zero has no reason
   reasonless_zero : file.profile.has_smepmp ≡ false → value ≡ 0 → HasNone file Mseccfg value
-  reasonless_zero none zero_value = rw zero_value (record {
-    absent = refl;
-    bits = rw none refl;
-    frozen = none_at_entries Frozen file Mseccfg 0 (λ k inside. and_right (is_frozen file k) false refl);
-    tor = none_at_entries Tor file Mseccfg 0 (λ k inside. refl);
-    reserved = none_at_entries Reserved file Mseccfg 0 (λ k inside. refl);
-    lockdown = none_at_entries Lockdown file Mseccfg 0 (λ k inside. refl);
-    sticky = rw (legal.plain none) refl;
-    bypass = rw none refl;
-    grain = none_at_entries Grain file Mseccfg 0 (λ k inside. refl);
-  })
+  reasonless_zero none zero_value = search (rules, tests, none_at_entries, and_right)
 
   pub mseccfg_reasonless : register_value (written file Mseccfg value) Mseccfg ≡ value → HasNone file Mseccfg value
-  mseccfg_reasonless same = elim (cases_Bool file.profile.has_smepmp) [
-    | inl has ↦ reasonless_there has (ap mseccfg_value (sym (left has)) ∙ same)
-    | inr has ↦ reasonless_zero has (sym same ∙ ap mseccfg_value (left_plain has))
-  ]
+  mseccfg_reasonless same = search (rules, tests, reasonless_there, left, reasonless_zero, left_plain)
 
 -- ---- mseccfgh
 
@@ -95,14 +69,4 @@ module _ (file : RegisterFile) (value : ℕ) where
   mseccfgh_stored none = search (rules, tests)
 
   pub mseccfgh_reasonless : value ≡ 0 → HasNone file Mseccfgh value
-  mseccfgh_reasonless zero_value = rw zero_value (record {
-    absent = refl;
-    bits = refl;
-    frozen = none_at_entries Frozen file Mseccfgh 0 (λ k inside. and_right (is_frozen file k) false refl);
-    tor = none_at_entries Tor file Mseccfgh 0 (λ k inside. refl);
-    reserved = none_at_entries Reserved file Mseccfgh 0 (λ k inside. refl);
-    lockdown = none_at_entries Lockdown file Mseccfgh 0 (λ k inside. refl);
-    sticky = refl;
-    bypass = refl;
-    grain = none_at_entries Grain file Mseccfgh 0 (λ k inside. refl);
-  })
+  mseccfgh_reasonless zero_value = search (rules, tests, none_at_entries, and_right)

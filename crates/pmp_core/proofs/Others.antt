@@ -1,16 +1,16 @@
 -- What a write leaves alone.
-use Rattle.std.proofs.Common.{rules, ◌≡◌, ◌≢◌, ◌↔◌, ℕ, suc, ◌≤◌, ◌==◌, ◌⊎◌, Bool, true, false, ◌&&◌, length}
-use Rattle.std.proofs.Common.{Option, Some, None, refl, sym, ap, ◌∙◌, inl, inr, arith}
+use borrow.Author.Tests.{tests}
+use Rattle.std.proofs.Common.{rules, ◌≡◌, ◌≢◌, ◌↔◌, ℕ, ◌≤◌, ◌⊎◌, Bool, true, false, ◌&&◌, length}
+use Rattle.std.proofs.Common.{Option, Some, None, refl, ap, ◌∙◌, inl, inr}
 use Rattle.std.proofs.lemmas.Bool.{cases_lt, cases_Bool, cond-false, eqb-false, or_parts}
 use Rattle.std.proofs.lemmas.List.{get_or_past}
 use Rattle.pmp_core.specs.declared.access.Access.{Access}
 use Rattle.pmp_core.specs.declared.csr.Csr.{Csr}
-use Rattle.pmp_core.specs.declared.csr.Csr.TheVariants.{Cfg, Addr, Mseccfg, Mseccfgh}
+use Rattle.pmp_core.specs.declared.csr.Csr.TheVariants.{Cfg, Mseccfg}
 use Rattle.pmp_core.specs.declared.decision.Cause.{Cause}
 use Rattle.pmp_core.specs.declared.decision.Cause.TheVariants.{Rule, Split, NoMatch}
 use Rattle.pmp_core.specs.Entry.{Entry}
-use Rattle.pmp_core.specs.Hart.{holds_byte_of}
-use Rattle.pmp_core.specs.RegisterFile.{RegisterFile, entry_at, reset_entry}
+use Rattle.pmp_core.specs.RegisterFile.{RegisterFile, entry_at}
 use Rattle.pmp_core.specs.RegisterWrite.{holds, is_tor, written}
 use Rattle.pmp_core.specs.Matching.{Matches, low_address}
 use Rattle.pmp_core.specs.Decision.{IsDecider, IsDecisionBy, IsLeast, Touches}
@@ -28,19 +28,11 @@ not_both a b none whole = search rules
 module _ (file : RegisterFile) (value : ℕ) where
   past_same : (csr : Csr) (i : ℕ) → length file.entries ≤ i
       → entry_at (written file csr value).entries i ≡ entry_at file.entries i
-  past_same csr i past =
-      get_or_past (written file csr value).entries i reset_entry (omega (arith, length-written file csr value))
-      ∙ sym (get_or_past file.entries i reset_entry past)
+  past_same csr i past = search (rules, tests, get_or_past, length-written)
 
   pub entry_kept : (csr : Csr) (i : ℕ) → holds file.profile csr i ≡ false
       → entry_at (written file csr value).entries i ≡ entry_at file.entries i
-  entry_kept (Cfg q) i none = elim (cases_lt i (length file.entries)) [
-    | inl inside ↦ configured_place file q value i inside ∙ cond-false (holds_byte_of file.profile q i) _ _ none
-    | inr past ↦ past_same (Cfg q) i past
-  ]
-  entry_kept (Addr j) i none = other_address file j value i (eqb-false i j none)
-  entry_kept Mseccfg i none = refl
-  entry_kept Mseccfgh i none = refl
+  entry_kept x0 i none = search (rules, tests, configured_place, cond-false, past_same, other_address, eqb-false)
 
   -- ---- bytes
 
@@ -55,34 +47,20 @@ module _ (file : RegisterFile) (value : ℕ) where
   low_same : (csr : Csr) (i : ℕ) → may_move file csr i ≡ false
       → is_tor (entry_at file.entries i).configuration.matching ≡ true
       → low_address (written file csr value).entries i ≡ low_address file.entries i
-  low_same (Cfg q) i none tor =
-      low_kept file.entries (written file (Cfg q) value).entries i (λ k below. address_kept q k)
-  low_same (Addr j) i none tor =
-      let apart : (i == suc j) ≡ false = not_both (i == suc j) _ (or_parts (i == j) _ none).1 tor in
-      low_kept file.entries (written file (Addr j) value).entries i (λ k below.
-      ap (λ (entry : Entry). entry.address) (other_address file j value k
-      (λ same. eqb-false i (suc j) apart (sym below ∙ ap suc same))))
-  low_same Mseccfg i none tor = refl
-  low_same Mseccfgh i none tor = refl
+  low_same x0 i none tor = search (rules, tests, low_kept, address_kept, not_both, or_parts, other_address, eqb-false)
 
   pub holds_none : (csr : Csr) (i : ℕ) → may_move file csr i ≡ false → holds file.profile csr i ≡ false
   holds_none csr i none = search (rules, or_parts)
 
   pub bytes_kept : (csr : Csr) (i byte : ℕ) → may_move file csr i ≡ false
       → Matches (written file csr value) i byte ↔ Matches file i byte
-  bytes_kept csr i byte none =
-      let entry = entry_at file.entries i in
-      rw (entry_kept csr i (holds_none csr i none), profile-written file csr value) (
-        same_bytes file.profile.grain entry.configuration.matching _ _ entry.address byte (low_same csr i none),
-        same_bytes file.profile.grain entry.configuration.matching _ _ entry.address byte (λ tor. sym (low_same csr i none tor)),
-      )
+  bytes_kept csr i byte none = search (rules, tests, entry_kept, holds_none, profile-written, same_bytes, low_same)
 
 -- ---- decisions
 
 least_alike : (P Q : ℕ → Type 0) → ((i : ℕ) → P i → Q i) → ((i : ℕ) → Q i → P i) → (least : Option ℕ)
     → IsLeast P least → IsLeast Q least
-least_alike P Q to from None none = λ i h. none i (from i h)
-least_alike P Q to from (Some i) found = (to i found.0, λ j below h. found.1 j below (from j h))
+least_alike x0 x1 to from x4 none = search (rules, tests)
 
 -- entry i matches no byte of the access in either file, or is the same in both
 abbrev pub IsSame : (one other : RegisterFile) → Access → ℕ → Type 0

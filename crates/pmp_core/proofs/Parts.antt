@@ -1,5 +1,6 @@
 -- A part of an access that is allowed is decided as the whole is.
-use Rattle.std.proofs.Common.{◌≡◌, ℕ, Bool, true, sym, ap, ◌∙◌, arith}
+use borrow.Author.Tests.{tests}
+use Rattle.std.proofs.Common.{rules, ◌≡◌, ℕ, Bool, true, sym, ap, ◌∙◌, arith}
 use Rattle.std.proofs.lemmas.Bool.{false≢true}
 use Rattle.pmp_core.specs.declared.access.Access.{Access}
 use Rattle.pmp_core.specs.declared.access.Kind.{Kind}
@@ -40,5 +41,4 @@ module _ (file : RegisterFile) (access part : Access) (is : IsPart part access) 
   )
 
 pub parts_law : PartsLaw
-parts_law file access part decision is decided granted =
-    part_decided file access part is decision.allowed decision.cause decided granted
+parts_law file access part decision is decided granted = search (rules, tests, part_decided)

@@ -1,4 +1,5 @@
 -- Lists of entries and of ranges, place by place.
+use borrow.Author.Tests.{tests}
 use Rattle.std.proofs.Common.{◌≡◌, ℕ, suc, ◌+◌, ◌<◌, Bool, false, List, [], ◌∷◌, length, map, get_or, slice_index_or}
 use Rattle.std.proofs.Common.{rules, refl, arith}
 use Rattle.std.specs.List.{range_with_len, list_any}
@@ -32,8 +33,7 @@ entries_by entries f h = fill_by_all f entries (length entries) reset_entry refl
 
 pub range_at : (profile : Profile) (entries : List Entry) (i : ℕ) → i < length entries
     → slice_index_or (ranges_on profile entries) i no_range ≡ range_on profile entries i
-range_at profile entries i inside =
-    get_or-map-range_with_len (range_on profile entries) 0 (length entries) i i no_range inside (omega arith)
+range_at profile entries i inside = search (rules, tests, get_or-map-range_with_len)
 
 pub none_any : {X : Type 0} (p : X → Bool) (xs : List X) (d : X) → ((i : ℕ) → i < length xs → p (get_or xs i d) ≡ false)
     → list_any p xs ≡ false

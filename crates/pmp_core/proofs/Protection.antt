@@ -1,6 +1,6 @@
 -- Frozen entries decide as they did.
 use borrow.Author.Tests.{tests}
-use Rattle.std.proofs.Common.{rules, ◌≡◌, ◌↔◌, ℕ, ◌≤◌, Bool, true, false, List, Some, fold, refl, sym, ap, subst, ◌∙◌, arith}
+use Rattle.std.proofs.Common.{rules, ◌≡◌, ◌↔◌, ℕ, ◌≤◌, Bool, true, false, List, Some, fold, sym, ap, subst, ◌∙◌, arith}
 use Rattle.std.specs.List.{list_all}
 use Rattle.std.specs.Prelude.{IsTrue}
 use Rattle.std.proofs.lemmas.Bool.{false≢true}
@@ -30,10 +30,7 @@ record Agree (one other : RegisterFile) (i : ℕ) : Type 0 where
   bytes : (j : ℕ) → j ≤ i → (byte : ℕ) → Matches other j byte ↔ Matches one j byte
 
 turned : (one other : RegisterFile) (i : ℕ) → Agree one other i → Agree other one i
-turned one other i same = record {
-  configuration = λ j within. sym (same.configuration j within);
-  bytes = λ j within byte. ((same.bytes j within byte).1, (same.bytes j within byte).0);
-}
+turned one other i same = search (rules, tests)
 
 module _ (one other : RegisterFile) (i : ℕ) (same : Agree one other i) (access : Access) where
   touches : (j : ℕ) → j ≤ i → Touches one access j → Touches other access j
@@ -84,10 +81,7 @@ module _ (one other : RegisterFile) (i : ℕ) (same : Agree one other i) (mml : 
 
 agree_after : (file : RegisterFile) (i : ℕ) (events : List Event) → is_held file i ≡ true
     → list_all is_write events ≡ true → Agree file (fold step file events) i
-agree_after file i events held writes = record {
-  configuration = λ j within. (lock_law file j events (held_at file i j within held) writes).configuration;
-  bytes = λ j within. (lock_law file j events (held_at file i j within held) writes).bytes;
-}
+agree_after file i events held writes = search (rules, tests, lock_law, held_at)
 
 decided_the_same : (file : RegisterFile) (i : ℕ) (events : List Event) → is_held file i ≡ true
     → list_all is_write events ≡ true → (fold step file events).mseccfg.mml ≡ file.mseccfg.mml
@@ -109,11 +103,7 @@ not_given fewer more gives none = search rules
 fewer_by_mml : FewerRightsLaw → (c : Configuration) → (one other : Bool)
     → (one ≡ true → other ≡ true) → (one ≡ false → is_reserved c ≡ false) → (mode : Mode) (kind : Kind)
     → allows (rule_rights one c mode) kind ≡ false → allows (rule_rights other c mode) kind ≡ false
-fewer_by_mml law c true true stays legal mode kind closed = closed
-fewer_by_mml law c true false stays legal mode kind closed = absurd (false≢true (stays refl))
-fewer_by_mml law c false false stays legal mode kind closed = closed
-fewer_by_mml law c false true stays legal mode kind closed =
-    not_given _ _ (law c (legal refl) mode kind) closed
+fewer_by_mml law c x2 x3 stays legal mode kind closed = search (rules, tests, false≢true, not_given)
 
 module _ (fewer : FewerRightsLaw) (file : RegisterFile) (i : ℕ) (events : List Event) (legal : IsLegal file)
     (held : is_held file i ≡ true) (writes : list_all is_write events ≡ true) (access : Access)
@@ -129,10 +119,7 @@ module _ (fewer : FewerRightsLaw) (file : RegisterFile) (i : ℕ) (events : List
 
   rights_fewer : (k : ℕ) → k ≤ i → allows (rights file k access.mode) access.kind ≡ false
       → allows (rights later k access.mode) access.kind ≡ false
-  rights_fewer k less closed =
-      rw (same_entries.configuration k less) (fewer_by_mml fewer (entry_at file.entries k).configuration
-      file.mseccfg.mml later.mseccfg.mml (mml_stays file events writes) (λ unset. legal.unreserved unset k)
-      access.mode access.kind closed)
+  rights_fewer k less closed = search (rules, tests, same_entries, fewer_by_mml, mml_stays)
 
   -- the rule of entry k allowed nothing where it was the decider and refused
   was_closed : (k : ℕ) → IsDecider file access (Some k) → Covers file access k → (allowed : Bool)

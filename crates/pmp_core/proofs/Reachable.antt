@@ -1,6 +1,6 @@
 -- Writes that give a legal register file from reset: bypass on, addresses, configurations, and then its mseccfg.
 use borrow.Author.Tests.{tests}
-use Rattle.std.proofs.Common.{rules, ◌≡◌, ℕ, zero, suc, ◌+◌, ◌-◌, ◌*◌, ◌/◌, ◌%◌, ◌<◌, ◌≤◌, Bool, true, false}
+use Rattle.std.proofs.Common.{rules, ◌≡◌, ℕ, zero, suc, ◌+◌, ◌-◌, ◌*◌, ◌/◌, ◌<◌, ◌≤◌, Bool, true, false}
 use Rattle.std.proofs.Common.{cond, replicate, nat_lt, ◌||◌}
 use Rattle.std.proofs.Math.Nat.{mod-eq_of_lt}
 use Rattle.std.proofs.Common.{List, [], ◌∷◌, ◌++◌, length, map, fold, slice_index, refl, sym, ap, ◌∙◌, inl, inr, arith}
@@ -16,7 +16,7 @@ use Rattle.pmp_core.specs.declared.event.Event.{Event}
 use Rattle.pmp_core.specs.declared.event.Event.TheVariants.{Write}
 use Rattle.pmp_core.specs.declared.mseccfg.MseccfgFields.{MseccfgFields}
 use Rattle.pmp_core.specs.declared.hart.Profile.{Profile}
-use Rattle.pmp_core.specs.Hart.{bytes_in, holds_byte_of, word_addresses}
+use Rattle.pmp_core.specs.Hart.{bytes_in, holds_byte_of}
 use Rattle.pmp_core.specs.Configuration.{Configuration, byte_of, is_reserved}
 use Rattle.pmp_core.specs.Mseccfg.{mseccfg_value, mseccfg_written}
 use Rattle.pmp_core.specs.RegisterFile.{RegisterFile, entry_at, reset_entry, reset_mseccfg, reset_file, IsLegal}
@@ -56,10 +56,7 @@ or_false_right a b is none = search (rules, tests)
 module _ (profile : Profile) (k i : ℕ) where
   both_apart : holds_byte_of profile (2 * k + 1) i ≡ true
       → (nat_lt i (8 * k) || holds_byte_of profile (2 * k) i) ≡ false
-  both_apart holds = elim (cases_Bool profile.is_rv32) [
-    | inl narrow ↦ grind (arith, nat_tests)
-    | inr wide ↦ grind (arith, nat_tests)
-  ]
+  both_apart holds = search (rules, tests)
 
   all_of_both : ((nat_lt i (8 * k) || holds_byte_of profile (2 * k) i) || holds_byte_of profile (2 * k + 1) i)
       ≡ nat_lt i (8 * suc k)
@@ -107,21 +104,7 @@ module _ (file : RegisterFile) (legal : IsLegal file) where
   address_next : (now : RegisterFile) (k : ℕ) → k < n → IsAddressed now k
       → IsAddressed (written now (Addr k) (entry_at file.entries k).address) (suc k)
   address_next now k inside before =
-      let value = (entry_at file.entries k).address in
-      let small : value % word_addresses now.profile ≡ value = rw before.hart (mod-eq_of_lt (legal.words k)) in
-      let own : entry_at (written now (Addr k) value).entries k ≡ addressed_entry k =
-      own_address_written now k value (omega (arith, before.many))
-      ∙ rw (thawed now k before, before.rest k (omega arith), small) refl in
-      record {
-        hart = before.hart;
-        fields = before.fields;
-        many = length-written now (Addr k) value ∙ before.many;
-        done = λ i below. elim (cases_lt i k) [
-          | inl less ↦ other_address now k value i (λ same. absurd (omega arith)) ∙ before.done i less
-          | inr more ↦ let same : k ≡ i = omega arith in rw (← same) own
-        ];
-        rest = λ i from. other_address now k value i (λ same. absurd (omega arith)) ∙ before.rest i (omega arith);
-      }
+      search (rules, tests, mod-eq_of_lt, own_address_written, thawed, length-written, other_address)
 
   addressed_to : (start : RegisterFile) → IsAddressed start 0 → (k : ℕ) → k ≤ n
       → IsAddressed (fold step start (address_events k)) k
@@ -247,17 +230,7 @@ module _ (file : RegisterFile) (legal : IsLegal file) where
       })
 
   from_addressed : (now : RegisterFile) → IsAddressed now n → IsConfigured now (λ i. nat_lt i 0)
-  from_addressed now before = record {
-    hart = before.hart;
-    fields = before.fields;
-    many = before.many;
-    done = λ i is. absurd (omega (arith, ltb-true i 0 is));
-    rest = λ i is. elim (cases_lt i n) [
-      | inl inside ↦ before.done i inside
-      | inr past ↦ before.rest i past ∙ sym (ap (λ (entry : Entry). record reset_entry { address = entry.address })
-          (past_file i past))
-    ];
-  }
+  from_addressed now before = search (rules, tests, ltb-true, past_file)
 
   -- ---- mseccfg
 
@@ -277,13 +250,7 @@ module _ (file : RegisterFile) (legal : IsLegal file) where
       (rw none (opened file.mseccfg.mml file.mseccfg.mmwp))
 
   started : IsAddressed after_opening 0
-  started = record {
-    hart = refl;
-    fields = opened_fields;
-    many = length-replicate n reset_entry;
-    done = λ i below. absurd (omega arith);
-    rest = λ i from. reset_at n i;
-  }
+  started = search (rules, tests, opened_fields, length-replicate, reset_at)
 
   -- so many pairs of configuration registers have bytes of entries
   abbrev pairs : ℕ

@@ -1,4 +1,5 @@
 -- A write has no reason exactly where it is stored as written.
+use borrow.Author.Tests.{tests}
 use Rattle.std.proofs.Common.{rules}
 use Rattle.std.proofs.Common.{◌≡◌, ℕ, ◌+◌, ◌*◌, ◌^◌, ◌<◌, Bool, true, false, cond, List, [], ◌∷◌, map, refl, sym, ap, arith}
 use Rattle.std.specs.List.{filter}
@@ -32,10 +33,7 @@ reasonless file legal Mseccfg value small same = mseccfg_reasonless file legal v
 reasonless file legal Mseccfgh value small same = mseccfgh_reasonless file value (sym same)
 
 pub write_reasons_law : WriteReasonsLaw
-write_reasons_law file legal csr value small = (
-  λ none. stored file legal csr value small (has_none file csr value none),
-  λ same. no_reasons file csr value (reasonless file legal csr value small same),
-)
+write_reasons_law file legal csr value small = search (rules, tests, stored, has_none, no_reasons, reasonless)
 
 no_bit : (b : Bool) → bit_of b ≡ 0 → b ≡ false
 no_bit b e = search rules

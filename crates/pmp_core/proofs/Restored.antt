@@ -1,16 +1,15 @@
 -- The file that plain numbers stand for, part by part.
-use Rattle.std.proofs.Common.{◌≡◌, ℕ, ◌-◌, ◌^◌, ◌%◌, ◌<◌, ◌≤◌, List, length, slice_index, refl, true}
+use borrow.Author.Tests.{tests}
+use Rattle.std.proofs.Common.{rules, ◌≡◌, ℕ, ◌-◌, ◌^◌, ◌%◌, ◌<◌, ◌≤◌, List, length, slice_index, refl, true}
 use Rattle.std.proofs.Common.{sym, ap, ◌∙◌, arith}
 use Rattle.std.proofs.Math.Nat.{mod-lt}
 use Rattle.std.proofs.Math.Pow.{pow_mono}
 use Rattle.std.proofs.lemmas.List.{get_or_past}
 use Rattle.pmp_core.specs.Entry.{Entry}
-use Rattle.pmp_core.specs.declared.mseccfg.MseccfgFields.{MseccfgFields}
 use Rattle.pmp_core.specs.declared.register_write.TheConstants.{WORD_ADDRESSES}
 use Rattle.pmp_core.specs.declared.saved_registers.SavedRegisters.{SavedRegisters}
-use Rattle.pmp_core.specs.declared.hart.Profile.{Profile}
 use Rattle.pmp_core.specs.Hart.{word_addresses}
-use Rattle.pmp_core.specs.RegisterFile.{RegisterFile, file_of, reset_entry, entry_at}
+use Rattle.pmp_core.specs.RegisterFile.{RegisterFile, reset_entry, entry_at}
 use Rattle.pmp_core.specs.RegisterWrite.{stored_over}
 use Rattle.pmp_core.specs.SavedRegisters.{hart_in, fields_in, restored_entry, restored_entries, restored_file}
 use Rattle.pmp_core.proofs.HartNumbers.{is_hart}
@@ -42,8 +41,7 @@ module _ (saved : SavedRegisters) where
 
   pub entry_in : (i : ℕ) → i < length (restored_file saved).entries
       → entry_at (restored_file saved).entries i ≡ restored_entry saved i
-  entry_in i inside = ap (λ (entries : List Entry). entry_at entries i) entries_in
-      ∙ restored_at saved (count_in saved) i (omega (arith, length_in))
+  entry_in i inside = search (rules, tests, entries_in, restored_at, length_in)
 
   -- an address has no more than 54 bits
   pub few_bits : (i : ℕ) → (restored_entry saved i).address < WORD_ADDRESSES
@@ -62,11 +60,7 @@ pub file_is : (saved : SavedRegisters) (file : RegisterFile) → hart_in saved �
     → ((i : ℕ) → i < length file.entries → entry_at file.entries i ≡ restored_entry saved i)
     → restored_file saved ≡ file
 unfolding restored_file
-file_is saved file hart fields count each =
-    ap (λ (p : Profile). file_of p (fields_in saved) (restored_entries saved p.entries)) hart
-    ∙ ap (λ (m : MseccfgFields). file_of file.profile m (restored_entries saved file.profile.entries)) fields
-    ∙ ap (file_of file.profile file.mseccfg)
-    (ap (restored_entries saved) (sym count) ∙ sym (entries_by file.entries (restored_entry saved) each))
+file_is saved file hart fields count each = search (rules, tests, entries_by)
 
 -- the file as a view has it
 module _ (saved : SavedRegisters) (file : RegisterFile) (is : restored_file saved ≡ file) (i : ℕ)
@@ -75,18 +69,14 @@ module _ (saved : SavedRegisters) (file : RegisterFile) (is : restored_file save
   near = omega (arith, few_in saved, length_in saved, ap (λ (f : RegisterFile). length f.entries) is)
 
   pub entry_seen : restored_entry saved i ≡ entry_at file.entries i
-  entry_seen =
-      let within : i < length (restored_file saved).entries =
-      omega (arith, ap (λ (f : RegisterFile). length f.entries) is) in
-      sym (entry_in saved i within) ∙ ap (λ (f : RegisterFile). entry_at f.entries i) is
+  entry_seen = search (rules, tests, entry_in)
 
 -- entry i has the same address where that is kept as the same number, on one hart
 module _ (one other : SavedRegisters) (file after : RegisterFile) (is : restored_file one ≡ file)
     (too : restored_file other ≡ after) (i : ℕ) (inside : i < length file.entries) (within : i < length after.entries)
     (hart : file.profile ≡ after.profile) where
   same_hart : hart_in one ≡ hart_in other
-  same_hart = sym (profile_in one) ∙ ap (λ (f : RegisterFile). f.profile) is ∙ hart
-      ∙ sym (ap (λ (f : RegisterFile). f.profile) too) ∙ profile_in other
+  same_hart = search (rules, tests, profile_in)
 
   pub same_address_by_number : slice_index one.addresses i ≡ slice_index other.addresses i
       → (entry_at file.entries i).address ≡ (entry_at after.entries i).address
@@ -101,8 +91,7 @@ module _ (one other : SavedRegisters) (file after : RegisterFile) (is : restored
     (too : restored_file other ≡ after) (i : ℕ) (inside : i < length file.entries) (within : i < length after.entries)
     (hart : file.profile ≡ after.profile) (mseccfg : file.mseccfg ≡ after.mseccfg) where
   same_fields : fields_in one ≡ fields_in other
-  same_fields = sym (mseccfg_in one) ∙ ap (λ (f : RegisterFile). f.mseccfg) is ∙ mseccfg
-      ∙ sym (ap (λ (f : RegisterFile). f.mseccfg) too) ∙ mseccfg_in other
+  same_fields = search (rules, tests, mseccfg_in)
 
   pub same_by_numbers : slice_index one.addresses i ≡ slice_index other.addresses i
       → slice_index one.configurations i ≡ slice_index other.configurations i

@@ -1,10 +1,11 @@
 -- Registers saved and restored.
-use Rattle.std.proofs.Common.{rules, ◌≡◌, ◌≢◌, ℕ, ◌+◌, ◌%◌, ◌<◌, ◌≤◌, Bool, true, false, List, length, map, set}
+use borrow.Author.Tests.{tests}
+use Rattle.std.proofs.Common.{rules, ◌≡◌, ℕ, ◌+◌, ◌<◌, ◌≤◌, Bool, true, false, List, length, map, set}
 use Rattle.std.proofs.Common.{cond, replicate, get_or-set_other, get_or-set_same, length-set}
 use Rattle.std.proofs.Math.Nat.{mod-lt, mod-eq_of_lt}
 use Rattle.std.proofs.Common.{slice_index, refl, sym, ap, ◌∙◌, inl, inr, arith}
 use Rattle.std.specs.List.{range_with_len}
-use Rattle.std.proofs.lemmas.Bool.{cases_eq, cases_lt}
+use Rattle.std.proofs.lemmas.Bool.{cases_lt}
 use Rattle.std.proofs.lemmas.List.{get_or_past, get_or-replicate}
 use Rattle.std.proofs.lemmas.List.FromFn.{fill_by_all, length-map-range_with_len, get_or-map-range_with_len}
 use Rattle.pmp_core.specs.Entry.{Entry}
@@ -36,18 +37,7 @@ pub record IsFilledTo (f : ℕ → ℕ) (xs : List ℕ) (place : ℕ) : Type 0 w
 
 pub filled_more : (f : ℕ → ℕ) (xs : List ℕ) (place x : ℕ) → place < 64 → x ≡ f place → IsFilledTo f xs place
     → IsFilledTo f (set xs place x) (place + 1)
-filled_more f xs place x inside is so_far =
-    let there : place < length xs = rw so_far.len inside in
-    record {
-      len = length-set xs place x ∙ so_far.len;
-      done = λ k below. elim (cases_eq k place) [
-        | inl here ↦ rw here (get_or-set_same xs place x 0 there ∙ is)
-        | inr apart ↦ rw get_or-set_other (so_far.done k (omega arith))
-      ];
-      rest = λ k from below.
-          let apart : k ≢ place = λ same. absurd (omega arith) in
-          rw get_or-set_other (so_far.rest k (omega arith) below);
-    }
+filled_more f xs place x inside is so_far = search (rules, tests, length-set, get_or-set_same, get_or-set_other)
 
 -- a table so filled is all of f, where f is zero from there on
 pub filled : (f : ℕ → ℕ) (xs : List ℕ) (place : ℕ) → IsFilledTo f xs place
@@ -71,18 +61,11 @@ module _ (saved : SavedRegisters) where
   past n i over = get_or_past (restored_entries saved n) i reset_entry (omega (arith, length-restored n))
 
   restored_words : (n i : ℕ) → (entry_at (restored_entries saved n) i).address < word_addresses (hart_in saved)
-  restored_words n i = elim (cases_lt i n) [
-    | inl inside ↦ rw (restored_at n i inside) (mod-lt (slice_index saved.addresses i) (zero_fits (hart_in saved)))
-    | inr over ↦ rw (past n i over) (zero_fits (hart_in saved))
-  ]
+  restored_words n i = search (rules, tests, restored_at, mod-lt, zero_fits, past)
 
   restored_unreserved : (n : ℕ) → (fields_in saved).mml ≡ false
       → (i : ℕ) → is_reserved (entry_at (restored_entries saved n) i).configuration ≡ false
-  restored_unreserved n off i = elim (cases_lt i n) [
-    | inl inside ↦ rw (restored_at n i inside, off)
-        (stored_unreserved (hart_in saved).grain true reset_entry.configuration (slice_index saved.configurations i) refl)
-    | inr over ↦ rw (past n i over) refl
-  ]
+  restored_unreserved n off i = search (rules, tests, restored_at, stored_unreserved, past)
 
   restored_chosen : (n i : ℕ) → let c = (entry_at (restored_entries saved n) i).configuration in
       selectable (hart_in saved).grain c ≡ c
@@ -99,15 +82,7 @@ module _ (saved : SavedRegisters) where
   pub restored_legal : IsLegal (restored_file saved)
   unfolding restored_file
   restored_legal =
-      let n = (hart_in saved).entries in
-      record {
-        profile = is_hart saved.entries;
-        count = length-restored n;
-        words = restored_words n;
-        unreserved = restored_unreserved n;
-        chosen = restored_chosen n;
-        plain = no_fields;
-      }
+      search (rules, tests, is_hart, length-restored, restored_words, restored_unreserved, restored_chosen, no_fields)
 
 pub restored_zero : restored_file zero_registers ≡ reset_file (profile_with 16)
 unfolding restored_file saved_hart
@@ -122,8 +97,7 @@ fields_back a b c = search rules
 -- a legal configuration is stored as it is
 pub stored_as_is : (mml : Bool) (old c : Configuration) → (mml ≡ false → is_reserved c ≡ false)
     → admitted mml true old c ≡ c
-stored_as_is true old c unreserved = refl
-stored_as_is false old c unreserved = rw (unreserved refl) refl
+stored_as_is x0 old c unreserved = search (rules, tests)
 
 module _ (file : RegisterFile) (legal : IsLegal file) where
   address_at : (k : ℕ) → k < 64 → slice_index (saved_registers file).addresses k ≡ (entry_at file.entries k).address
@@ -144,37 +118,18 @@ module _ (file : RegisterFile) (legal : IsLegal file) where
   fields_kept : (has : Bool) → file.profile.has_smepmp ≡ has
       → cond has (mseccfg_fields (saved_registers file).mseccfg) reset_mseccfg ≡ file.mseccfg
   unfolding saved_registers
-  fields_kept true e = fields_back file.mseccfg.mml file.mseccfg.mmwp file.mseccfg.rlb
-  fields_kept false e = sym (legal.plain e)
+  fields_kept x0 e = search (rules, tests, fields_back)
 
   mseccfg_back : fields_in (saved_registers file) ≡ file.mseccfg
   mseccfg_back = rw hart_back (fields_kept file.profile.has_smepmp refl)
 
   entry_back : (k : ℕ) → k < length file.entries → entry_at file.entries k ≡ restored_entry (saved_registers file) k
   entry_back k inside =
-      let within : k < 64 = omega (arith, legal.count, legal.profile.few) in
-      let small : (entry_at file.entries k).address % word_addresses file.profile ≡ (entry_at file.entries k).address =
-      mod-eq_of_lt (legal.words k) in
-      let stored : admitted file.mseccfg.mml true reset_entry.configuration (entry_at file.entries k).configuration
-      ≡ (entry_at file.entries k).configuration =
-      stored_as_is file.mseccfg.mml reset_entry.configuration (entry_at file.entries k).configuration
-      (λ off. legal.unreserved off k) in
-      rw (
-        address_at k within,
-        byte_at_entry k within,
-        mseccfg_back,
-        hart_back,
-        configuration_back (entry_at file.entries k).configuration,
-        small,
-        stored,
-        legal.chosen k,
-      ) refl
+      search (rules, tests, mod-eq_of_lt, stored_as_is, address_at, byte_at_entry, mseccfg_back, hart_back, configuration_back)
 
   pub restored_saved : restored_file (saved_registers file) ≡ file
   unfolding restored_file
-  restored_saved = rw (mseccfg_back, hart_back) (ap (λ (entries : List Entry). record file { entries = entries })
-      (ap (λ (n : ℕ). restored_entries (saved_registers file) n) (sym legal.count)
-      ∙ sym (entries_by file.entries (restored_entry (saved_registers file)) entry_back)))
+  restored_saved = search (rules, tests, mseccfg_back, hart_back, entries_by, entry_back)
 
 pub saved_law : SavedLaw
 saved_law = restored_saved

@@ -4,7 +4,7 @@ use Rattle.std.proofs.Common.{rules, ◌≡◌, ◌≢◌, ◌↔◌, ℕ, suc, 
 use Rattle.std.proofs.Common.{List, [], ◌∷◌, fold, length, get_or, refl, sym, ap, ◌∙◌, inl, inr}
 use Rattle.std.proofs.Common.{arith}
 use Rattle.std.specs.List.{list_all, list_any}
-use Rattle.std.proofs.lemmas.Bool.{and_parts, cases_Bool, cases_lt, cases_eq, lt-ltb, ltb-true}
+use Rattle.std.proofs.lemmas.Bool.{and_parts, cases_lt, cases_eq, lt-ltb, ltb-true}
 use Rattle.std.proofs.lemmas.List.{get_or_past, length-replicate}
 use Rattle.pmp_core.specs.declared.access.Access.{Access}
 use Rattle.pmp_core.specs.declared.csr.Csr.{Csr}
@@ -47,17 +47,7 @@ record Alike (n : ℕ) (one other : RegisterFile) : Type 0 where
   pub hart : SameHart one.profile other.profile
 
 turned : (n : ℕ) (one other : RegisterFile) → Alike n one other → Alike n other one
-turned n one other alike = record {
-  mseccfg = sym alike.mseccfg;
-  entries = λ i. sym (alike.entries i);
-  rest = λ i past. sym (alike.entries i) ∙ alike.rest i past;
-  hart = record {
-    grain = sym alike.hart.grain;
-    bits = sym alike.hart.bits;
-    smepmp = sym alike.hart.smepmp;
-    xlen = sym alike.hart.xlen;
-  };
-}
+turned n one other alike = search (rules, tests)
 
 -- n entries or more, as many as the hart has
 record HasRoom (n : ℕ) (file : RegisterFile) : Type 0 where
@@ -68,18 +58,10 @@ some_entries : (n : ℕ) (file : RegisterFile) → 0 < n → HasRoom n file → 
 some_entries n file some h = lt-ltb 0 (length file.entries) (omega (arith, h.room))
 
 step_room : (n : ℕ) (file : RegisterFile) → HasRoom n file → (event : Event) → HasRoom n (step file event)
-step_room n file h event =
-    let kept = length-step file h.count event in
-    record {
-      count = kept ∙ h.count ∙ ap (λ (p : Profile). p.entries) (sym (profile-step file event));
-      room = rw kept h.room;
-    }
+step_room n file h event = search (rules, tests, length-step, profile-step)
 
 reset_room : (n : ℕ) (hart : Profile) → n ≤ hart.entries → HasRoom n (reset_file hart)
-reset_room n hart many = record {
-  count = length-replicate hart.entries reset_entry;
-  room = rw (length-replicate hart.entries reset_entry) many;
-}
+reset_room n hart many = search (rules, tests, length-replicate)
 
 -- ---- one write
 
@@ -90,23 +72,11 @@ zero_over_reset grain mml rlb = search (rules, tests)
 
 module _ (n q value : ℕ) (named : writes_first n (Write (Cfg q) value) ≡ true) where
   zero_byte : (profile : Profile) (i : ℕ) → n ≤ i → holds_byte_of profile q i ≡ true → byte_for q value i ≡ 0
-  zero_byte profile i past holds =
-      let low = low_of profile q i holds in
-      let high = high_of profile q i holds in
-      let most = most_bytes profile q in
-      search (rules, tests)
+  zero_byte profile i past holds = search (rules, tests, low_of, high_of, most_bytes)
 
   rest_configured : (file : RegisterFile) (i : ℕ) → n ≤ i → entry_at file.entries i ≡ reset_entry
       → configured file q value i ≡ reset_entry
-  rest_configured file i past reset = elim (cases_Bool (holds_byte_of file.profile q i)) [
-    | inr other ↦ rw (other, reset) refl
-    | inl holds ↦ rw (
-      holds,
-      reset,
-      zero_byte file.profile i past holds,
-      zero_over_reset file.profile.grain file.mseccfg.mml file.mseccfg.rlb,
-    ) refl
-  ]
+  rest_configured file i past reset = search (rules, tests, zero_byte, zero_over_reset)
 
   -- also past the end of a file of n entries or more
   configured_anywhere : (file : RegisterFile) (i : ℕ) → n ≤ length file.entries
@@ -139,8 +109,7 @@ any_alike p d none (x ∷ xs) (y ∷ ys) same = rw (same 0, any_alike p d none x
 
 module _ (n : ℕ) (one other : RegisterFile) (alike : Alike n one other) where
   low_alike : (i : ℕ) → low_address one.entries i ≡ low_address other.entries i
-  low_alike i = low_kept other.entries one.entries i
-      (λ k below. ap (λ (entry : Entry). entry.address) (alike.entries k))
+  low_alike i = search (rules, tests, low_kept)
 
   matches_alike : (i byte : ℕ) → Matches other i byte ↔ Matches one i byte
   matches_alike i byte = rw (alike.entries i, low_alike i, alike.hart.grain) (λ h. h, λ h. h)
@@ -192,12 +161,7 @@ module _ (n : ℕ) (one other : RegisterFile) (first : HasRoom n one) (second : 
   write_alike Mseccfgh value named = alike
 
 reset_alike : (n : ℕ) (one other : Profile) → SameHart one other → Alike n (reset_file one) (reset_file other)
-reset_alike n one other hart = record {
-  mseccfg = refl;
-  entries = λ i. reset_at one.entries i ∙ sym (reset_at other.entries i);
-  rest = λ i past. reset_at one.entries i;
-  hart = hart;
-}
+reset_alike n one other hart = search (rules, tests, reset_at)
 
 -- ---- any events
 

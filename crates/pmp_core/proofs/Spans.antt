@@ -5,7 +5,7 @@ use Rattle.pmp_core.specs.declared.range.ByteRange.{ByteRange}
 use Rattle.pmp_core.specs.declared.span.Span.{Span}
 use Rattle.pmp_core.specs.RegisterFile.{RegisterFile, HasAddresses}
 use Rattle.pmp_core.specs.Matching.{Matches}
-use Rattle.pmp_core.specs.Ranges.{IsInRange, range_of}
+use Rattle.pmp_core.specs.Ranges.{IsInRange}
 use Rattle.pmp_core.specs.Span.{IsSpan, span_in, span_of}
 use Rattle.pmp_core.specs.SpanLaw.{OneSpanLaw}
 use Rattle.pmp_core.proofs.Matches.{matches_range}
@@ -44,5 +44,4 @@ span_by file i range matched = search (rules, tests)
 
 pub is_span : (file : RegisterFile) (i : ℕ) → HasAddresses file → IsSpan file i (span_of file i)
 unfolding span_of
-is_span file i addresses =
-    span_by file i (range_of file i) (λ byte. matches_range file i byte addresses)
+is_span file i addresses = search (rules, tests, span_by, matches_range)

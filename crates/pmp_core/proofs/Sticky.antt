@@ -15,7 +15,7 @@ use Rattle.pmp_core.specs.Mseccfg.{mseccfg_written}
 use Rattle.pmp_core.specs.RegisterFile.{RegisterFile, entry_at, is_frozen}
 use Rattle.pmp_core.specs.RegisterValue.{register_value}
 use Rattle.pmp_core.specs.RegisterWrite.{is_any_locked, is_tor, step, written}
-use Rattle.pmp_core.specs.Rights.{allows, default_rights_by, has_entries}
+use Rattle.pmp_core.specs.Rights.{allows, default_rights_by}
 use Rattle.pmp_core.specs.Histories.{is_write}
 use Rattle.pmp_core.specs.StickyLaw.{StickyLaw, FrozenAddressLaw}
 use Rattle.pmp_core.proofs.Legal.{length-written}
@@ -62,14 +62,7 @@ length-writes file (Write csr value ∷ events) writes =
     length-writes (written file csr value) events writes ∙ length-written file csr value
 
 pub sticky_law : StickyLaw
-sticky_law file events writes = record {
-  mml = mml_stays file events writes;
-  mmwp = mmwp_stays file events writes;
-  closed = λ some set mode kind.
-      let after = fold step file events in
-      let still : has_entries after ≡ true = rw (length-writes file events writes) some in
-      rw (still, mmwp_stays file events writes set) (none_open after.mseccfg.mml mode kind);
-}
+sticky_law file events writes = search (rules, tests, mml_stays, mmwp_stays, length-writes, none_open)
 
 -- ---- addresses
 

@@ -33,8 +33,7 @@ parts_plain l f x w r hl hf hx hw hr = (omega arith, omega arith)
 
 -- what a configuration reads is a byte with bits 6 and 5 clear
 pub byte_plain : (c : Configuration) → (byte_of c / 32 % 4 ≡ 0) × (byte_of c < 256)
-byte_plain c = parts_plain (bit_of c.locked) (field_of c.matching) (bit_of c.execute) (bit_of c.write) (bit_of c.read)
-    (bit_le c.locked) (field_le c.matching) (bit_le c.execute) (bit_le c.write) (bit_le c.read)
+byte_plain c = search (rules, tests, parts_plain, bit_le, field_le)
 
 -- and gives the configuration back
 parts_back : (l f x w r : ℕ) → l ≤ 1 → f ≤ 3 → x ≤ 1 → w ≤ 1 → r ≤ 1
@@ -47,18 +46,7 @@ matching_back : (matching : AddressMatching) → matching_of (field_of matching)
 matching_back matching = search rules
 
 pub configuration_back : (c : Configuration) → configuration_of (byte_of c) ≡ c
-configuration_back c =
-    let (locked, matching, execute, write, read) =
-    parts_back (bit_of c.locked) (field_of c.matching) (bit_of c.execute) (bit_of c.write) (bit_of c.read)
-    (bit_le c.locked) (field_le c.matching) (bit_le c.execute) (bit_le c.write) (bit_le c.read) in
-    let is_one : ℕ → Bool = λ bit. bit == 1 in
-    λ i. record {
-      locked = (ap is_one locked ∙ bit_back c.locked) i;
-      matching = (ap matching_of matching ∙ matching_back c.matching) i;
-      execute = (ap is_one execute ∙ bit_back c.execute) i;
-      write = (ap is_one write ∙ bit_back c.write) i;
-      read = (ap is_one read ∙ bit_back c.read) i;
-    }
+configuration_back c = search (rules, tests, parts_back, bit_le, field_le, bit_back, matching_back)
 
 read_back : (byte : ℕ) → byte < 256 → (byte_of (configuration_of byte) == byte) ≡ is_plain byte
 read_back byte small =
@@ -94,8 +82,7 @@ reads_chosen grain c byte same = search (rules, tests)
 reads_all : (grain : ℕ) (c : Configuration) (byte : ℕ)
     → ((nat_lt 0 grain && is_na4 (configuration_of byte).matching) ≡ false → selectable grain c ≡ c)
     → byte_of (selectable grain c) ≡ byte → byte_of c ≡ byte
-reads_all grain c byte whole same =
-    ap byte_of (sym (whole (reads_chosen grain c byte same))) ∙ same
+reads_all grain c byte whole same = search (rules, tests, reads_chosen)
 
 unreserved_matching : (c : Configuration) → (without_reserved c).matching ≡ c.matching
 unreserved_matching c = search (rules, tests)
@@ -169,13 +156,5 @@ stored_as_taken grain false true false old byte small is h = by_test (is_barred_
     by_test : (barred : Bool) → is_barred_byte byte ≡ barred
         → byte_of (selectable grain (cond barred old (configuration_of byte))) ≡ byte
         → IsTaken grain false true false old byte
-    by_test true e h =
-        absurd (false≢true (sym (not_barred (selectable grain old) byte small (selected_locked ∙ free) h) ∙ e))
-    by_test false e h = record {
-      plain = sym (read_back byte small)
-          ∙ eq-eqb _ byte (reads_all grain (configuration_of byte) byte (chosen grain (configuration_of byte)) h);
-      unfrozen = refl;
-      unreserved = refl;
-      unbarred = rw e refl;
-      coarse = reads_chosen grain (configuration_of byte) byte h;
-    }
+    by_test x0 e h =
+        search (rules, tests, false≢true, not_barred, selected_locked, free, read_back, eq-eqb, reads_all, chosen, reads_chosen)

@@ -1,5 +1,6 @@
 -- A configuration register is stored as written exactly where there is no reason.
-use Rattle.std.proofs.Common.{◌≡◌, ℕ, ◌+◌, ◌-◌, ◌*◌, ◌^◌, ◌<◌, ◌≤◌, true, false, not, cond}
+use borrow.Author.Tests.{tests}
+use Rattle.std.proofs.Common.{rules, ◌≡◌, ℕ, ◌+◌, ◌-◌, ◌*◌, ◌^◌, ◌<◌, ◌≤◌, true, false, not, cond}
 use Rattle.std.proofs.Common.{◌&&◌, nat_lt, length, refl, sym, ap, ◌∙◌, inl, inr, arith}
 use Rattle.std.specs.Int.{w64, to_le_bytes}
 use Rattle.std.proofs.lemmas.Bool.{cases_lt, cases_Bool, not-false, and_left, and_right, eq-eqb, le-ltb}
@@ -9,7 +10,7 @@ use Rattle.pmp_core.specs.Entry.{Entry}
 use Rattle.pmp_core.specs.declared.write_reasons.WriteReason.TheVariants.{Frozen, Tor, Reserved, Lockdown, Grain}
 use Rattle.pmp_core.specs.Configuration.{Configuration, byte_of}
 use Rattle.pmp_core.specs.Hart.{holds_byte_of}
-use Rattle.pmp_core.specs.RegisterFile.{RegisterFile, reset_entry, entry_at, is_frozen}
+use Rattle.pmp_core.specs.RegisterFile.{RegisterFile, entry_at, is_frozen}
 use Rattle.pmp_core.specs.RegisterValue.{byte_in, configuration_word, register_value}
 use Rattle.pmp_core.specs.RegisterWrite.{written}
 use Rattle.pmp_core.specs.WriteReasons.{byte_for, changes_frozen, adds_reserved, adds_barred, is_too_fine}
@@ -42,13 +43,10 @@ module _ (file : RegisterFile) (q value : ℕ) where
       (entry_at file.entries i).configuration (byte_for q value i)
 
   left_there : (i : ℕ) → holds_byte_of file.profile q i ≡ true → i < n → (after i).configuration ≡ left i
-  left_there i holds inside =
-      ap (λ (e : Entry). e.configuration) (configured_place file q value i inside) ∙ rw holds refl
+  left_there i holds inside = search (rules, tests, configured_place)
 
   reads_zero_past : (i : ℕ) → n ≤ i → byte_of (after i).configuration ≡ 0
-  reads_zero_past i past = ap (λ (e : Entry). byte_of e.configuration)
-      (get_or_past (written file (Cfg q) value).entries i reset_entry
-      (omega (arith, length-written file (Cfg q) value)))
+  reads_zero_past i past = search (rules, tests, get_or_past, length-written)
 
   -- ---- no reason, so stored
 
@@ -71,8 +69,7 @@ module _ (file : RegisterFile) (q value : ℕ) where
 
     -- an entry of the unit reads its byte
     reads_there : (i : ℕ) → holds_byte_of file.profile q i ≡ true → i < n → byte_of (after i).configuration ≡ byte_for q value i
-    reads_there i holds inside = ap byte_of (left_there i holds inside)
-        ∙ taken _ _ _ _ _ _ (byte_small value (i - 4 * q)) (takes i holds inside)
+    reads_there i holds inside = search (rules, tests, left_there, taken, byte_small, takes)
 
     -- a byte for no entry is zero
     zero_there : (i : ℕ) → 4 * q ≤ i → i < 4 * q + 8 → (holds_byte_of file.profile q i && nat_lt i n) ≡ false
@@ -83,9 +80,8 @@ module _ (file : RegisterFile) (q value : ℕ) where
 
     -- and is read where the entry would be
     reads_past : (i : ℕ) → holds_byte_of file.profile q i ≡ true → n ≤ i → byte_of (after i).configuration ≡ byte_for q value i
-    reads_past i holds past = reads_zero_past i past
-        ∙ sym (zero_there i (low_of file.profile q i holds)
-        (omega (arith, high_of file.profile q i holds, most_bytes file.profile q)) (and_right _ _ (le-ltb i n past)))
+    reads_past i holds past =
+        search (rules, tests, reads_zero_past, zero_there, low_of, high_of, most_bytes, and_right, le-ltb)
 
     byte_read : (j : ℕ) → j < 8 → byte value j ≡ byte_in (written file (Cfg q) value) q (4 * q + j)
     byte_read j near = elim (cases_Bool (holds_byte_of file.profile q (4 * q + j))) [
@@ -118,8 +114,7 @@ module _ (file : RegisterFile) (q value : ℕ) where
         rw place at (reads_byte (i - 4 * q) (omega arith))
 
     reads_entry : (i : ℕ) → holds_byte_of file.profile q i ≡ true → byte_for q value i ≡ byte_of (after i).configuration
-    reads_entry i holds = reads_in i (low_of file.profile q i holds)
-        (omega (arith, high_of file.profile q i holds, most_bytes file.profile q)) ∙ rw holds refl
+    reads_entry i holds = search (rules, tests, reads_in, low_of, high_of, most_bytes)
 
     was_taken : (i : ℕ) → holds_byte_of file.profile q i ≡ true → i < n → Takes i
     was_taken i holds inside = stored_as_taken _ _ _ _ _ _ (byte_small value (i - 4 * q)) refl
@@ -141,13 +136,7 @@ module _ (file : RegisterFile) (q value : ℕ) where
     zero_other i low high other = reads_in i low high ∙ rw other refl
 
     none_absent : (i : ℕ) → 4 * q ≤ i → i < 4 * q + 8 → is_absent_byte file.profile n q value i ≡ false
-    none_absent i low high = elim (cases_Bool (holds_byte_of file.profile q i)) [
-      | inl holds ↦ elim (cases_lt i n) [
-        | inl inside ↦ entry_byte file.profile n q value i holds inside
-        | inr past ↦ zero_byte file.profile n q value i (zero_past i holds past)
-      ]
-      | inr other ↦ zero_byte file.profile n q value i (zero_other i low high other)
-    ]
+    none_absent i low high = search (rules, tests, entry_byte, zero_byte, zero_past, zero_other)
 
     -- none of the reasons that entry i can have
     abbrev IsFine : ℕ → Type 0
@@ -155,12 +144,7 @@ module _ (file : RegisterFile) (q value : ℕ) where
         × (adds_barred file (Cfg q) value i ≡ false) × (is_too_fine file (Cfg q) value i ≡ false)
 
     fine : (i : ℕ) → i < n → IsFine i
-    fine i inside = elim (cases_Bool (holds_byte_of file.profile q i)) [
-      | inl holds ↦
-          let taken = was_taken i holds inside in
-          rw holds (taken.unfrozen, taken.unreserved, taken.unbarred, taken.coarse)
-      | inr other ↦ rw other (and_right _ false refl, refl, refl, refl)
-    ]
+    fine i inside = search (rules, tests, was_taken, and_right)
 
     pub word_reasonless : HasNone file (Cfg q) value
     word_reasonless = record {

@@ -12,14 +12,13 @@ use Rattle.pmp_core.specs.Entry.{Entry}
 use Rattle.pmp_core.specs.declared.event.Event.TheVariants.{Write}
 use Rattle.pmp_core.specs.declared.mseccfg.MseccfgFields.{MseccfgFields}
 use Rattle.pmp_core.specs.declared.saved_registers.SavedRegisters.{SavedRegisters}
-use Rattle.pmp_core.specs.Configuration.{Configuration, byte_of, configuration_of}
-use Rattle.pmp_core.specs.declared.hart.Profile.{Profile}
+use Rattle.pmp_core.specs.Configuration.{Configuration, byte_of}
 use Rattle.pmp_core.specs.Hart.{bytes_in, word_addresses}
 use Rattle.pmp_core.specs.Mseccfg.{mseccfg_fields, mseccfg_value}
-use Rattle.pmp_core.specs.RegisterFile.{RegisterFile, IsLegal, entry_at, reset_entry}
+use Rattle.pmp_core.specs.RegisterFile.{RegisterFile, IsLegal, entry_at}
 use Rattle.pmp_core.specs.RegisterValue.{byte_in, configuration_word, register_value}
 use Rattle.pmp_core.specs.RegisterWrite.{configured, configurations_written, is_address_frozen, stored}
-use Rattle.pmp_core.specs.RegisterWrite.{admitted, written}
+use Rattle.pmp_core.specs.RegisterWrite.{written}
 use Rattle.pmp_core.specs.SavedRegisters.{fields_in, hart_in, hart_number, restored_entry, restored_file, saved_hart}
 use Rattle.pmp_core.specs.SavedRegisters.{saved_registers}
 use Rattle.pmp_core.proofs.Configuring.{byte_within, configured_at, held, kept_above, kept_below}
@@ -83,13 +82,7 @@ module _ (new : SavedRegisters) (file : RegisterFile) (legal : IsLegal file) (ha
   pub entry_by : (k : ℕ) → slice_index new.configurations k ≡ byte_of (entry_at file.entries k).configuration
       → slice_index new.addresses k % word_addresses (hart_in new) ≡ (entry_at file.entries k).address
       → restored_entry new k ≡ entry_at file.entries k
-  entry_by k byte address =
-      let c = (entry_at file.entries k).configuration in
-      let stored : admitted file.mseccfg.mml true reset_entry.configuration c ≡ c =
-      stored_as_is file.mseccfg.mml reset_entry.configuration c (λ off. legal.unreserved off k) in
-      let configuration : (restored_entry new k).configuration ≡ c =
-      rw (byte, fields, hart, configuration_back c, stored, legal.chosen k) refl in
-      λ i. record { configuration = configuration i; address = address i }
+  entry_by k byte address = search (rules, tests, stored_as_is, legal, fields, hart, configuration_back)
 
 -- the same numbers stand for the same entry
 pub same_entry : (old new : SavedRegisters) → new.entries ≡ old.entries → new.mseccfg ≡ old.mseccfg → (k : ℕ)
@@ -104,8 +97,7 @@ same_fields old new number mseccfg = rw (number, mseccfg) refl
 -- ---- a configuration register
 
 pub byte_once : (one other : Configuration) → byte_of one ≡ byte_of other → one ≡ other
-byte_once one other same =
-    sym (configuration_back one) ∙ ap configuration_of same ∙ configuration_back other
+byte_once one other same = search (rules, tests, configuration_back)
 
 pub word_bytes : (file : RegisterFile) (q word : ℕ) → configuration_word file q ≡ word → (j : ℕ) → j < 8
     → byte word j ≡ byte_in file q (4 * q + j)
@@ -182,21 +174,7 @@ pub written_more : (old new : SavedRegisters) (bytes : List ℕ) (first held ind
       configurations = set new.configurations index (slice_index bytes (index - first));
     }) bytes first held (index + 1)
 written_more old new bytes first held index few from near inside so_far =
-    let there : index < length new.configurations = rw so_far.len inside in
-    record {
-      addresses = so_far.addresses;
-      mseccfg = so_far.mseccfg;
-      number = so_far.number;
-      most = omega arith;
-      len = length-set new.configurations index _ ∙ so_far.len;
-      done = λ k low below. elim (cases_eq k index) [
-        | inl here ↦ rw here (get_or-set_same new.configurations index _ 0 there)
-        | inr apart ↦ rw get_or-set_other (so_far.done k low (omega arith))
-      ];
-      rest = λ k outside.
-          let apart : k ≢ index = λ same. absurd (omega (arith, outside (omega arith))) in
-          rw get_or-set_other (so_far.rest k (λ low. omega (arith, outside low)));
-    }
+    search (rules, tests, length-set, get_or-set_same, get_or-set_other)
 
 module _ (old new : SavedRegisters) (q value word end : ℕ)
     (is : configuration_word (written (restored_file old) (Cfg q) value) q ≡ word)
@@ -245,10 +223,7 @@ module _ (old new : SavedRegisters) (q value word end : ℕ)
 
   own_address : (k : ℕ) → k < length before.entries
       → slice_index new.addresses k % word_addresses (hart_in new) ≡ (entry_at after.entries k).address
-  own_address k inside =
-      ap (λ (xs : List ℕ). slice_index xs k % word_addresses (hart_in new)) done.addresses
-      ∙ ap (λ (p : Profile). slice_index old.addresses k % word_addresses p) (ap saved_hart done.number)
-      ∙ ap (λ (e : Entry). e.address) (sym (entry_in old k inside)) ∙ sym (address k)
+  own_address k inside = search (rules, tests, done, entry_in, address)
 
   each : (k : ℕ) → k < length after.entries → entry_at after.entries k ≡ restored_entry new k
   each k there =
@@ -270,22 +245,7 @@ module _ (old new : SavedRegisters) (q value word end : ℕ)
   pub configurations_canonical : length old.addresses ≡ 64 → saved_registers before ≡ old
       → saved_registers (restored_file new) ≡ new
   configurations_canonical long canonical =
-      let kept = kept_in old before canonical in
-      ap saved_registers configurations_restored ∙ saved_by new after (ap length done.addresses ∙ long) done.len (record {
-        addresses = λ k inside. ap (λ (xs : List ℕ). slice_index xs k) done.addresses ∙ kept.addresses k inside
-            ∙ sym (address k);
-        configurations = λ k inside. elim (cases_lt k (4 * q)) [
-          | inl below ↦ done.rest k (λ low. absurd (omega arith)) ∙ kept.configurations k inside
-              ∙ ap (λ (e : Entry). byte_of e.configuration) (sym (other k (λ low. absurd (omega arith))))
-          | inr low ↦ elim (cases_lt k end) [
-            | inl high ↦ own_byte k low high
-            | inr past ↦ done.rest k (λ _. past) ∙ kept.configurations k inside
-                ∙ ap (λ (e : Entry). byte_of e.configuration) (sym (other k (λ _. past)))
-          ]
-        ];
-        mseccfg = done.mseccfg ∙ kept.mseccfg;
-        number = done.number ∙ kept.number;
-      })
+      search (rules, tests, kept_in, configurations_restored, saved_by, done, address, other, own_byte)
 
 -- ---- an address register
 
@@ -305,8 +265,7 @@ module _ (old : SavedRegisters) (i value kept : ℕ) (inside : i < length (resto
   near = omega (arith, length_in old, few_in old)
 
   own_entry : entry_at file_after.entries i ≡ record (entry_at file.entries i) { address = kept }
-  own_entry = rw free (rw get_or-set_same (ap (λ (a : ℕ). record (entry_at file.entries i) { address = a })
-      (ap (λ (p : Profile). value % word_addresses p) (profile_in old) ∙ sym is)))
+  own_entry = search (rules, tests, get_or-set_same, profile_in)
 
   address_entry : (k : ℕ) → k < length file_after.entries → entry_at file_after.entries k ≡ restored_entry with_address k
   address_entry k there =
@@ -326,8 +285,7 @@ module _ (old : SavedRegisters) (i value kept : ℕ) (inside : i < length (resto
       (step_legal file (restored_legal old) (Write (Addr i) value)).count address_entry
 
   pub address_changed : (entry_at file.entries i).address ≢ kept → restored_file with_address ≢ file
-  address_changed differs same = differs (ap (λ (f : RegisterFile). (entry_at f.entries i).address)
-      (sym same ∙ address_restored) ∙ ap (λ (e : Entry). e.address) own_entry)
+  address_changed differs same = search (rules, tests, address_restored, own_entry)
 
   pub address_canonical : length old.configurations ≡ 64 → saved_registers file ≡ old
       → saved_registers (restored_file with_address) ≡ with_address

@@ -1,16 +1,15 @@
 -- Writes that give the same bytes on RV64 and on RV32 leave the same registers.
+use borrow.Author.Tests.{tests}
 use Rattle.std.proofs.Common.{rules, ◌≡◌, ℕ, zero, suc, ◌+◌, ◌-◌, ◌*◌, ◌/◌, ◌%◌, ◌^◌, ◌<◌, true, false}
 use Rattle.std.proofs.Common.{List, [], ◌∷◌, fold, length, map, slice_index, refl, sym, ap, ◌∙◌, inl, inr, arith, subst}
 use Rattle.std.specs.Int.{w64, to_le_bytes}
 use Rattle.std.specs.List.{flat_map, range_with_len}
-use Rattle.std.proofs.lemmas.Bool.{cases_eq, cases_lt, eq-eqb, ne_eqb}
+use Rattle.std.proofs.lemmas.Bool.{cases_lt, eq-eqb, ne_eqb}
 use Rattle.std.proofs.lemmas.List.Sums.{fold-append}
 use Rattle.pmp_core.specs.declared.access.Access.{Access}
-use Rattle.pmp_core.specs.declared.csr.Csr.TheVariants.{Cfg, Addr, Mseccfg, Mseccfgh}
+use Rattle.pmp_core.specs.declared.csr.Csr.TheVariants.{Cfg}
 use Rattle.pmp_core.specs.declared.event.Event.{Event}
-use Rattle.pmp_core.specs.declared.event.Event.TheVariants.{Write, Reset}
 use Rattle.pmp_core.specs.declared.hart.Profile.{Profile}
-use Rattle.pmp_core.specs.Entry.{Entry}
 use Rattle.pmp_core.specs.Hart.{bytes_in, holds_byte_of}
 use Rattle.pmp_core.specs.Histories.{replay}
 use Rattle.pmp_core.specs.Ranges.{cause_of, decision_of, range_on}
@@ -48,10 +47,7 @@ module _ (file : RegisterFile) (wide : file.profile.is_rv32 ≡ false) (q value 
   odd_kept odd = entries_by file.entries (configured file q value) (λ k inside. sym (kept file q value k (none k)))
     where
       none : (k : ℕ) → holds_byte_of file.profile q k ≡ false
-      none k = elim (cases_lt k (4 * q)) [
-        | inl below ↦ none_below file.profile q k below
-        | inr low ↦ none_above file.profile q k (rw (wide, ne_eqb (q % 2) 0 odd) (omega (arith, low)))
-      ]
+      none k = search (rules, tests, none_below, none_above, ne_eqb)
 
   module _ (even : q % 2 ≡ 0) where
     eight : bytes_in file.profile q ≡ 8
@@ -121,16 +117,7 @@ module _ (file : RegisterFile) (wide : file.profile.is_rv32 ≡ false) (q value 
 
 step_alike : (file : RegisterFile) → file.profile.is_rv32 ≡ false → (event : Event)
     → fold step (narrow file) (on_rv32 event) ≡ narrow (step file event)
-step_alike file wide (Write (Cfg q) value) = elim (cases_eq (q % 2) 0) [
-  | inl even ↦ rw (eq-eqb (q % 2) 0 even) (ap (λ (entries : List Entry). record (narrow file) { entries = entries })
-      (both file wide q value even))
-  | inr odd ↦ rw (ne_eqb (q % 2) 0 odd) (ap (λ (entries : List Entry). record (narrow file) { entries = entries })
-      (odd_kept file wide q value odd))
-]
-step_alike file wide (Write (Addr i) value) = refl
-step_alike file wide (Write Mseccfg value) = refl
-step_alike file wide (Write Mseccfgh value) = refl
-step_alike file wide Reset = refl
+step_alike file wide x2 = search (rules, tests, eq-eqb, both, ne_eqb, odd_kept)
 
 -- ---- all events
 
@@ -144,11 +131,7 @@ events_alike (event ∷ events) file wide =
 
 alike : (file : RegisterFile) (access : Access) → AreAlike file (narrow file) access
 unfolding decision_of cause_of range_on
-alike file access = record {
-  entries = refl;
-  mseccfg = refl;
-  decided = record { by_bytes = λ decision. (λ h. h, λ h. h); computed = refl };
-}
+alike file access = search (rules, tests)
 
 pub xlen_law : XlenLaw
 xlen_law hart events access wide =
