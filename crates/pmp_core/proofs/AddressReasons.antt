@@ -1,12 +1,11 @@
 -- An address register is stored as written exactly where there is no reason.
 use borrow.Author.Tests.{tests}
-use Rattle.std.proofs.Common.{rules, ◌≡◌, ℕ, ◌-◌, ◌%◌, ◌<◌, ◌≤◌, Bool, true, false, not, ◌&&◌, ◌==◌, nat_lt, List}
+use Rattle.std.proofs.Common.{rules, ◌≡◌, ℕ, ◌-◌, ◌%◌, ◌<◌, ◌≤◌, Bool, true, false, not, ◌&&◌, ◌==◌, nat_lt}
 use Rattle.std.proofs.Common.{length, refl, sym, ap, ◌∙◌, inl, inr, arith, length-set, get_or-set_same}
-use Rattle.std.proofs.Math.ListN.{set}
-use Rattle.std.proofs.Math.Nat.{mod-lt, mod-eq_of_lt, div-eq_of_lt, lt-mul-div-succ}
+use Rattle.std.proofs.Math.Nat.{mod-lt, div-eq_of_lt}
 use Rattle.pmp_core.proofs.Legal.{wide_bits, zero_fits}
 use Rattle.std.proofs.lemmas.Bool.{cases_Bool, not-false, and_left, and_right}
-use Rattle.std.proofs.lemmas.Bool.{eqb-true, eq-eqb, ne_eqb, lt-ltb, le-ltb}
+use Rattle.std.proofs.lemmas.Bool.{eqb-true, eq-eqb, ne_eqb, lt-ltb}
 use Rattle.std.proofs.lemmas.List.{get_or_past}
 use Rattle.pmp_core.specs.declared.csr.Csr.TheVariants.{Addr}
 use Rattle.pmp_core.specs.Entry.{Entry}
@@ -19,7 +18,7 @@ use Rattle.pmp_core.specs.RegisterWrite.{is_address_frozen, written}
 use Rattle.pmp_core.specs.WriteReasons.{is_changed, changes_frozen, is_low_end, is_too_fine}
 use Rattle.pmp_core.proofs.Grains.{read_again, read_within, tor_most}
 use Rattle.pmp_core.proofs.EachReason.{none_at_entry, none_at_entries, HasNone}
-use Rattle.pmp_core.proofs.StoredBytes.{and_true, not_same}
+use Rattle.pmp_core.proofs.StoredBytes.{not_same}
 
 module _ (file : RegisterFile) (legal : IsLegal file) (i value : ℕ) where
   abbrev words : ℕ
@@ -34,9 +33,6 @@ module _ (file : RegisterFile) (legal : IsLegal file) (i value : ℕ) where
 
   abbrev now : ℕ
   now = reads (entry_at file.entries i).address
-
-  abbrev set_address : List Entry
-  set_address = set file.entries i (record (entry_at file.entries i) { address = value % word_addresses file.profile })
 
   -- the grain divides the words
   fits : file.profile.grain - 1 ≤ file.profile.address_bits - 2
@@ -85,10 +81,10 @@ module _ (file : RegisterFile) (legal : IsLegal file) (i value : ℕ) where
         (not-false _ (sym fine_here ∙ none_at_entry Grain file (Addr i) value none.grain i inside))
 
     zero_value : length file.entries ≤ i → value ≡ 0
-    zero_value past = search (rules, tests, eqb-true, not-false, and_true, le-ltb)
+    zero_value past = search rules
 
     mod_value : value % words ≡ value
-    mod_value = search (rules, tests, eqb-true, not-false, mod-eq_of_lt, lt-mul-div-succ, some)
+    mod_value = search rules
 
     pub address_stored : register_value (written file (Addr i) value) (Addr i) ≡ value
     address_stored =
@@ -113,7 +109,7 @@ module _ (file : RegisterFile) (legal : IsLegal file) (i value : ℕ) where
     reads_absent = search (rules, tests, and_left, not_same, reads_nothing, lt-ltb, and_right)
 
     fine : (k : ℕ) → (changes_frozen file (Addr i) value k ≡ false) × (is_low_end file (Addr i) value k ≡ false)
-    fine k = search (rules, tests)
+    fine k = search rules
 
     coarse : (k : ℕ) → k < length file.entries → is_too_fine file (Addr i) value k ≡ false
     coarse k inside = search (rules, tests, fine_here, not_same, reads_again, ne_eqb)

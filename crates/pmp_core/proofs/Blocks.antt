@@ -1,14 +1,16 @@
 -- Two bytes of one block of the grain.
+use Rattle.std.proofs.lemmas.Bool.Decides.{nat_tests}
+use Rattle.std.proofs.lemmas.Grind.{common_steps}
 use borrow.Author.Tests.{tests}
-use Rattle.std.proofs.Common.{rules, ◌≡◌, ℕ, ◌+◌, ◌-◌, ◌*◌, ◌/◌, ◌%◌, ◌^◌, ◌<◌, ◌≤◌, refl, sym, ap, ◌∙◌, inl, inr}
+use Rattle.std.proofs.Common.{rules, ◌≡◌, ℕ, ◌+◌, ◌-◌, ◌*◌, ◌/◌, ◌%◌, ◌^◌, ◌<◌, ◌≤◌, sym, ap, ◌∙◌, inl, inr}
 use Rattle.std.proofs.Common.{arith}
 use Rattle.std.proofs.Math.Nat.{div-lt_iff_lt-mul, le-div_iff_mul-le, mul-mod_left}
 use Rattle.std.proofs.Math.Pow.{pow_pos}
-use Rattle.std.proofs.lemmas.Bool.{cases_lt, lt-ltb}
+use Rattle.std.proofs.lemmas.Bool.{cases_lt}
 use Rattle.std.proofs.lemmas.Nat.{mod-mul-add, pow-add}
 use Rattle.pmp_core.specs.Configuration.{Configuration}
 use Rattle.pmp_core.specs.declared.configuration.AddressMatching.{AddressMatching}
-use Rattle.pmp_core.specs.declared.configuration.AddressMatching.TheVariants.{Off, Tor, Na4, Napot}
+use Rattle.pmp_core.specs.declared.configuration.AddressMatching.TheVariants.{Na4}
 use Rattle.pmp_core.specs.Grain.{napot_address, selectable, tor_address}
 use Rattle.pmp_core.specs.GrainLaw.{GrainLaw}
 use Rattle.pmp_core.specs.Matching.{InNapot, MatchesBy}
@@ -61,17 +63,12 @@ module _ (grain one other : ℕ) (same : one / 2 ^ (grain + 2) ≡ other / 2 ^ (
 
   alike_by : (mode : AddressMatching) (low address : ℕ) → (mode ≡ Na4 → grain ≡ 0)
       → MatchesBy grain mode low address one → MatchesBy grain mode low address other
-  alike_by Off low address finest h = h
-  alike_by Tor low address finest h = (
-    rw (top_end low) (from_alike (low / 2 ^ grain) (rw (top_end low) at h.0)),
-    rw (top_end address) (below_alike (address / 2 ^ grain) (rw (top_end address) at h.1)),
-  )
-  alike_by Na4 low address finest h = na4_alike address (finest refl) h
-  alike_by Napot low address finest h = napot_alike address h
+  alike_by mode low address finest h =
+      grind (arith, nat_tests, common_steps, top_end, from_alike, below_alike, na4_alike, napot_alike)
 
 -- NA4 can be chosen with the finest grain alone
 na4_finest : (grain : ℕ) (c : Configuration) → selectable grain c ≡ c → c.matching ≡ Na4 → grain ≡ 0
-na4_finest x0 c chosen na4 = search (rules, tests, lt-ltb)
+na4_finest grain c chosen na4 = search rules
 
 pub grain_law : GrainLaw
 grain_law file legal one other same i = search (rules, tests, na4_finest, alike_by)

@@ -31,7 +31,7 @@ module _ (first count i : ℕ) where
 
 module _ (profile : Profile) (q : ℕ) where
   pub most_bytes : bytes_in profile q ≤ 8
-  most_bytes = search (rules, tests)
+  most_bytes = search rules
 
   pub held : (i : ℕ) → 4 * q ≤ i → i < 4 * q + bytes_in profile q → holds_byte_of profile q i ≡ true
   held i low high = among (4 * q) (bytes_in profile q) i low high
@@ -56,7 +56,7 @@ byte_within file q i = search (rules, tests, byte_plain)
 module _ (file : RegisterFile) (q place count : ℕ) (count_is : count ≡ bytes_in file.profile q) where
   pub byte_there : (byte : ℕ) → place < count → byte ≡ byte_of (entry_at file.entries (4 * q + place)).configuration
       → byte ≡ byte_in file q (4 * q + place)
-  byte_there byte near is = search (rules, tests, held)
+  byte_there byte near is = search rules
 
   pub byte_beside : count ≤ place → 0 ≡ byte_in file q (4 * q + place)
   byte_beside far = rw (none_above file.profile q (4 * q + place) (omega (arith, count_is))) refl

@@ -1,4 +1,5 @@
 -- The decision by ranges is the manual's, and the manual's is one.
+use Rattle.std.proofs.lemmas.Grind.{common_steps}
 use borrow.Author.Tests.{tests}
 use Rattle.std.proofs.Common.{◌≡◌, ℕ, suc, ◌+◌, ◌-◌, ◌<◌, ◌≤◌, Bool, true, false, cond, List, [], ◌∷◌, length, Option}
 use Rattle.std.proofs.Common.{Some, max, slice_index_or, refl, sym, ap, ◌∙◌, arith, add-zero, below_more, inl}
@@ -8,7 +9,6 @@ use Rattle.std.proofs.lemmas.Bool.Decides.{nat_tests}
 use Rattle.std.proofs.lemmas.List.{get_or_past}
 use Rattle.std.proofs.lemmas.List.FromFn.{get_or-map-range_with_len}
 use Rattle.pmp_core.specs.declared.access.Access.{Access}
-use Rattle.pmp_core.specs.declared.access.Kind.{Kind}
 use Rattle.pmp_core.specs.declared.decision.Cause.{Cause}
 use Rattle.pmp_core.specs.declared.decision.Cause.TheVariants.{Rule, Split, NoMatch}
 use Rattle.pmp_core.specs.declared.decision.Decision.{Decision}
@@ -16,8 +16,8 @@ use Rattle.pmp_core.specs.declared.range.ByteRange.{ByteRange}
 use Rattle.pmp_core.specs.RegisterFile.{RegisterFile, HasAddresses}
 use Rattle.pmp_core.specs.Matching.{Matches}
 use Rattle.pmp_core.specs.Decision.{IsLeast, IsOwner, Touches, IsDecider, IsDecision, IsDecisionBy}
-use Rattle.pmp_core.specs.Rights.{allows, nothing, rights}
-use Rattle.pmp_core.specs.Ranges.{IsInRange, range_of, ranges_of, is_touched, is_covered, rights_by}
+use Rattle.pmp_core.specs.Rights.{allows, rights}
+use Rattle.pmp_core.specs.Ranges.{IsInRange, range_of, is_touched, is_covered, rights_by}
 use Rattle.pmp_core.specs.Ranges.{cause_from, cause_of, decision_of}
 use Rattle.pmp_core.proofs.Matches.{matches_range}
 use Rattle.pmp_core.proofs.Places.{no_range, length-ranges_of}
@@ -49,7 +49,7 @@ CoversBytes file start end i = (byte : ℕ) → (start ≤ byte) × (byte < end)
 
 module _ (file : RegisterFile) (start end : ℕ) (small : HasAddresses file) (i : ℕ) where
   touches_range : TouchesBytes file start end i → is_touched start end (range_of file i) ≡ true
-  touches_range x0 = search (rules, tests, touched_byte, matches_range)
+  touches_range touched = search (rules, tests, touched_byte, matches_range)
 
   range_touches : is_touched start end (range_of file i) ≡ true → TouchesBytes file start end i
   range_touches h =
@@ -120,20 +120,13 @@ module _ (file : RegisterFile) (start end : ℕ) (full : start < end) (small : H
 
   pub cause_is : IsCause file start end (cause_of file start end)
   unfolding cause_of
-  cause_is = cause_is_from 0 (ranges_of file)
-      (λ k inside. get_or-map-range_with_len (range_of file) 0 (length file.entries) k (0
-      + k) no_range (omega (arith, length-ranges_of file.profile file.entries)) refl)
-      (λ j below. absurd (omega arith))
-      (λ j above touches. untouched_past file start end j
-      (omega (arith, length-ranges_of file.profile file.entries)) touches)
-
-refuses : (kind : Kind) → allows nothing kind ≡ false
-refuses kind = search rules
+  cause_is =
+      grind (arith, nat_tests, common_steps, cause_is_from, get_or-map-range_with_len, no_range, length-ranges_of, untouched_past)
 
 decided : (file : RegisterFile) (access : Access) (cause : Cause)
     → IsCause file access.start (access.start + access.length) cause
     → IsDecisionBy file access (allows (rights_by file access.mode cause) access.kind) cause
-decided file access cause is = search (rules, refuses)
+decided file access cause is = search rules
 
 pub decided_by_ranges : (file : RegisterFile) (access : Access) → HasAddresses file
     → IsDecision file access (decision_of file access)
@@ -170,8 +163,5 @@ one_decision file access one other p q = search (rules, tests, decided_once)
 -- ---- one byte
 
 module _ (file : RegisterFile) (access : Access) (single : access.length ≡ 1) where
-  matches_single : (i : ℕ) → Touches file access i → Matches file i access.start
-  matches_single i x1 = search (rules, tests)
-
   pub owner_decides : (owner : Option ℕ) → IsOwner file access.start owner → IsDecider file access owner
-  owner_decides x0 unowned = search (rules, tests, matches_single)
+  owner_decides owner unowned = search rules

@@ -1,10 +1,9 @@
 -- The reasons for a write, one by one.
 use borrow.Author.Tests.{tests}
-use Rattle.std.proofs.Common.{◌==◌, ◌≡◌, ℕ, zero, suc, ◌+◌, ◌-◌, ◌<◌, ◌≤◌, Bool, true, false, cond, List, [], ◌∷◌, length}
+use Rattle.std.proofs.Common.{◌≡◌, ℕ, zero, suc, ◌+◌, ◌-◌, ◌<◌, ◌≤◌, Bool, true, false, cond, List, [], ◌∷◌, length}
 use Rattle.std.proofs.Common.{rules, get_or, refl, sym, ◌∙◌, inl, inr, arith}
 use Rattle.std.specs.List.{range_with_len, list_any, filter}
-use Rattle.std.proofs.lemmas.Bool.{false≢true, false_from_ne_true, or_from, cases_Bool, cases_lt, and_right}
-use Rattle.std.proofs.lemmas.Bool.{eq-eqb, ne_eqb}
+use Rattle.std.proofs.lemmas.Bool.{false≢true, false_from_ne_true, or_from, cases_Bool, cases_lt}
 use Rattle.std.proofs.lemmas.List.Folds.{list_any_at}
 use Rattle.std.proofs.lemmas.List.FromFn.{length-range_with_len, get_or-range_with_len}
 use Rattle.pmp_core.specs.declared.csr.Csr.{Csr}
@@ -74,13 +73,10 @@ any_between p a b n within others = elim (cases_Bool (list_any p (range_with_len
 
 -- ---- a reason for some entry
 
-turned : (i k : ℕ) → (i == k) ≡ false → (k == i) ≡ false
-turned i k other = ne_eqb k i (λ same. false≢true (sym other ∙ eq-eqb i k (sym same)))
-
 -- no reason holds for an entry of which the register holds nothing
 pub not_own : (reason : WriteReason) (file : RegisterFile) (csr : Csr) (value i : ℕ) → holds file.profile csr i ≡ false
     → is_entry_reason reason file csr value i ≡ false
-not_own x0 file x2 value i other = search (rules, tests, and_right, turned)
+not_own reason file csr value i other = search rules
 
 module _ (reason : WriteReason) (file : RegisterFile) (csr : Csr) (value : ℕ) where
   pub none_at_entry : is_some_entry_reason reason file csr value ≡ false → (i : ℕ) → i < length file.entries
@@ -124,4 +120,4 @@ has_none file csr value none =
 
 pub no_reasons : (file : RegisterFile) (csr : Csr) (value : ℕ) → HasNone file csr value
     → write_reasons file csr value ≡ []
-no_reasons file csr value h = search (rules, tests)
+no_reasons file csr value h = search rules

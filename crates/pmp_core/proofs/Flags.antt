@@ -9,7 +9,7 @@ use Rattle.pmp_core.specs.declared.access.Kind.TheVariants.{Fetch, Load, Store}
 use Rattle.pmp_core.specs.Perms.{right_of}
 
 bit_test : (b p : ℕ) → b < 2 → 0 < p → eqb (b * p) p ≡ eqb b 1
-bit_test x0 p low high = search (rules, tests)
+bit_test b p low high = search rules
 
 pub flag_is_bit : (n k : ℕ) → eqb (bit_and n (2 ^ k)) (2 ^ k) ≡ eqb (n / 2 ^ k % 2) 1
 flag_is_bit n k = search (rules, tests, and_pow, bit_test, pow_pos)

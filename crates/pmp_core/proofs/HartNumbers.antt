@@ -1,11 +1,11 @@
 -- Harts as numbers.
 use borrow.Author.Tests.{tests}
-use Rattle.std.proofs.Common.{rules, ◌≡◌, ℕ, ◌+◌, ◌*◌, ◌/◌, ◌%◌, ◌^◌, ◌≤◌, true, false, MatchOption, Option, None}
+use Rattle.std.proofs.Common.{rules, ◌≡◌, ℕ, ◌+◌, ◌*◌, ◌/◌, ◌^◌, ◌≤◌, true, false, MatchOption, Option}
 use Rattle.std.proofs.Common.{refl, ◌∙◌, arith}
 use Rattle.std.proofs.lemmas.Bool.{and_parts, or_cases, eqb-true, eq-eqb, ne_eqb, not-true}
 use Rattle.pmp_core.specs.Configuration.{bit_of}
 use Rattle.pmp_core.specs.declared.hart.Profile.{Profile}
-use Rattle.pmp_core.specs.Hart.{IsProfile, hart_fault, profile_with, profile_of}
+use Rattle.pmp_core.specs.Hart.{IsProfile, profile_with, profile_of}
 use Rattle.pmp_core.specs.declared.size.Size.{Size}
 use Rattle.pmp_core.specs.SavedRegisters.{is_usual, hart_number, spelled_hart, spells_hart, names_hart, saved_hart}
 
@@ -13,21 +13,15 @@ pub usual : (n : ℕ) → n ≤ 64 → IsProfile (profile_with n)
 usual n few = record { few = few; fine = omega arith; wide = omega arith; narrow = omega arith }
 
 pub is_profile_of : (size : Size) → IsProfile (profile_of size)
-is_profile_of size = search (rules, usual)
+is_profile_of size = search rules
 
 -- ---- whether there is a hart
-
-lawful : (profile : Profile) → hart_fault profile ≡ None → IsProfile profile
-lawful profile h = search (rules, tests)
-
-pub no_fault : (profile : Profile) → IsProfile profile → hart_fault profile ≡ None
-no_fault profile is = search (rules, tests)
 
 -- ---- every number stands for a hart
 
 pub is_hart : (number : ℕ) → IsProfile (saved_hart number)
 unfolding saved_hart
-is_hart number = search (rules, tests)
+is_hart number = search rules
 
 pub saved_16 : saved_hart 16 ≡ profile_with 16
 unfolding saved_hart
@@ -49,7 +43,7 @@ saved_spelled number is = rw is refl
 pub saved_unspelled : (number : ℕ) → number / 2 ^ 32 ≡ 1 → spells_hart number ≡ false
     → saved_hart number ≡ profile_with 16
 unfolding saved_hart
-saved_unspelled number marked none = search (rules, tests, ne_eqb)
+saved_unspelled number marked none = search rules
 
 -- ---- which numbers name one
 
@@ -72,15 +66,9 @@ module _ (number : ℕ) (few : number ≡ 16 → ⊥) (many : number ≡ 64 → 
   pub named_spelled : (hart : Option Profile)
       → MatchOption hart (spells_hart number ≡ false) (λ h. (spells_hart number ≡ true) × (h ≡ spelled_hart number))
       → MatchOption hart (names_hart number ≡ false) (λ h. (names_hart number ≡ true) × (h ≡ saved_hart number))
-  named_spelled x0 none = search (rules, tests, named_plain, saved_spelled)
+  named_spelled hart none = search (rules, tests, named_plain, saved_spelled)
 
 -- ---- and each hart has one
-
-parts_back : (n g a s x : ℕ) → n ≤ 64 → g ≤ 10 → a ≤ 56 → s ≤ 1 → x ≤ 1
-    → (let number = n + 2 ^ 8 * a + 2 ^ 16 * s + 2 ^ 17 * x + 2 ^ 24 * g + 2 ^ 32 in
-    (number % 2 ^ 8 ≡ n) × (number / 2 ^ 24 % 2 ^ 8 ≡ g) × (number / 2 ^ 8 % 2 ^ 8 ≡ a) × (number / 2 ^ 16 % 2 ≡ s)
-    × (number / 2 ^ 32 ≡ 1) × (number / 2 ^ 18 % 2 ^ 6 ≡ 0) × (number / 2 ^ 17 % 2 ≡ x))
-parts_back n g a s x hn hg ha hs hx = search (rules, tests)
 
 module _ (profile : Profile) (is : IsProfile profile) where
   usual_back : is_usual profile ≡ true → saved_hart profile.entries ≡ profile
@@ -89,7 +77,7 @@ module _ (profile : Profile) (is : IsProfile profile) where
   spelled_back : saved_hart (profile.entries + 2 ^ 8 * profile.address_bits + 2 ^ 16 * bit_of profile.has_smepmp
       + 2 ^ 17 * bit_of profile.is_rv32 + 2 ^ 24 * profile.grain + 2 ^ 32) ≡ profile
   unfolding saved_hart
-  spelled_back = search (rules, tests)
+  spelled_back = search rules
 
   pub number_back : saved_hart (hart_number profile) ≡ profile
   unfolding hart_number
@@ -97,7 +85,7 @@ module _ (profile : Profile) (is : IsProfile profile) where
 
   spelled_name : spells_hart (profile.entries + 2 ^ 8 * profile.address_bits + 2 ^ 16 * bit_of profile.has_smepmp
       + 2 ^ 17 * bit_of profile.is_rv32 + 2 ^ 24 * profile.grain + 2 ^ 32) ≡ true
-  spelled_name = search (rules, tests)
+  spelled_name = search rules
 
   usual_name : is_usual profile ≡ true → names_hart profile.entries ≡ true
   usual_name h = search (rules, tests, and_parts, or_cases, named_16, eqb-true, named_64)

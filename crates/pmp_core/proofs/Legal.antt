@@ -22,7 +22,7 @@ use Rattle.pmp_core.specs.RegisterFile.{RegisterFile, reset_entry, reset_mseccfg
 use Rattle.pmp_core.specs.RegisterFile.{HasAddresses, IsLegal}
 use Rattle.pmp_core.specs.ReachableLaw.{LegalLaw}
 use Rattle.pmp_core.specs.Grain.{selectable}
-use Rattle.pmp_core.specs.RegisterWrite.{without_reserved, stored_over, stored, configured}
+use Rattle.pmp_core.specs.RegisterWrite.{stored_over, stored, configured}
 use Rattle.pmp_core.specs.RegisterWrite.{is_address_frozen, written, step}
 use Rattle.pmp_core.proofs.Grains.{selectable_other}
 
@@ -57,18 +57,14 @@ legal_addresses file legal = search (rules, tests, pow_mono, narrow_bits)
 
 -- ---- a configuration
 
--- a reserved combination isn't stored without lockdown
-unreserved : (c : Configuration) → is_reserved (without_reserved c) ≡ false
-unreserved c = search (rules, tests)
-
 pub stored_unreserved : (grain : ℕ) (rlb : Bool) (old : Configuration) (byte : ℕ) → is_reserved old ≡ false
     → is_reserved (stored_over grain false rlb old byte) ≡ false
-stored_unreserved grain rlb old byte h = search (rules, tests)
+stored_unreserved grain rlb old byte h = search rules
 
 -- nor NA4 where it can't be chosen
 pub stored_chosen : (grain : ℕ) (mml rlb : Bool) (old : Configuration) (byte : ℕ) → selectable grain old ≡ old
     → selectable grain (stored_over grain mml rlb old byte) ≡ stored_over grain mml rlb old byte
-stored_chosen grain mml rlb old byte h = search (rules, tests)
+stored_chosen grain mml rlb old byte h = search rules
 
 -- ---- a write, entry by entry
 
@@ -80,7 +76,7 @@ configured_place file q value i inside =
 
 pub length-written : (file : RegisterFile) (csr : Csr) (value : ℕ)
     → length (written file csr value).entries ≡ length file.entries
-length-written file x1 value = search (rules, tests, length-map-range_with_len, length-set)
+length-written file csr value = search (rules, tests, length-map-range_with_len, length-set)
 
 -- the hart is kept
 pub profile-written : (file : RegisterFile) (csr : Csr) (value : ℕ) → (written file csr value).profile ≡ file.profile
@@ -93,7 +89,7 @@ IsLegalEntry profile mml entry =
     × (selectable profile.grain entry.configuration ≡ entry.configuration)
 
 reset_entry_legal : (profile : Profile) (mml : Bool) → IsLegalEntry profile mml reset_entry
-reset_entry_legal profile mml = search (rules, tests, zero_fits, selectable_other)
+reset_entry_legal profile mml = search rules
 
 module _ (file : RegisterFile) (legal : IsLegal file) where
   legal_place : (i : ℕ) → IsLegalEntry file.profile file.mseccfg.mml (entry_at file.entries i)
@@ -138,19 +134,19 @@ module _ (file : RegisterFile) (legal : IsLegal file) where
 
   -- lockdown that is off after a write was off before it
   was_off : (csr : Csr) (value : ℕ) → (written file csr value).mseccfg.mml ≡ false → file.mseccfg.mml ≡ false
-  was_off csr value off = search (rules, tests)
+  was_off csr value off = search rules
 
   -- a hart without Smepmp has no mseccfg, whatever is written
   still_plain : (csr : Csr) (value : ℕ) → file.profile.has_smepmp ≡ false
       → (written file csr value).mseccfg ≡ reset_mseccfg
-  still_plain csr value none = search (rules, tests)
+  still_plain csr value none = search rules
 
   pub step_legal : (event : Event) → IsLegal (step file event)
-  step_legal x0 =
+  step_legal event =
       search (rules, tests, reset_legal, profile-written, length-written, written_legal, was_off, still_plain)
 
 pub profile-step : (file : RegisterFile) (event : Event) → (step file event).profile ≡ file.profile
-profile-step file x1 = search (rules, tests, profile-written)
+profile-step file event = search rules
 
 pub profile-fold : (file : RegisterFile) (events : List Event) → (fold step file events).profile ≡ file.profile
 profile-fold file [] = refl
@@ -158,7 +154,7 @@ profile-fold file (event ∷ events) = profile-fold (step file event) events ∙
 
 pub length-step : (file : RegisterFile) → length file.entries ≡ file.profile.entries → (event : Event)
     → length (step file event).entries ≡ length file.entries
-length-step file count x2 = search (rules, tests, length-replicate, length-written)
+length-step file count event = search (rules, tests, length-replicate, length-written)
 
 pub length-fold : (file : RegisterFile) → length file.entries ≡ file.profile.entries → (events : List Event)
     → length (fold step file events).entries ≡ length file.entries

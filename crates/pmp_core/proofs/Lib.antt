@@ -1,6 +1,5 @@
 pub mod Napot
 pub mod Places
-mod Counts
 pub mod Configuring
 pub mod Passes
 pub mod Matches

@@ -14,7 +14,7 @@ use Rattle.pmp_core.specs.declared.event.Event.{Event}
 use Rattle.pmp_core.specs.declared.event.Event.TheVariants.{Write, Reset}
 use Rattle.pmp_core.specs.RegisterFile.{RegisterFile, entry_at, is_frozen}
 use Rattle.pmp_core.specs.Matching.{low_address, MatchesBy, Matches}
-use Rattle.pmp_core.specs.RegisterWrite.{configured, is_tor, is_address_frozen, address_written}
+use Rattle.pmp_core.specs.RegisterWrite.{configured, is_tor, address_written}
 use Rattle.pmp_core.specs.RegisterWrite.{written, step}
 use Rattle.pmp_core.specs.LockLaw.{LockLaw}
 use Rattle.pmp_core.specs.Histories.{is_write}
@@ -32,17 +32,17 @@ pub record Held (before after : RegisterFile) (i : ℕ) : Type 0 where
 
 pub configured_address : (file : RegisterFile) (q value k : ℕ)
     → (configured file q value k).address ≡ (entry_at file.entries k).address
-configured_address file q value k = search (rules, tests)
+configured_address file q value k = search rules
 
 -- a write to another address register
 pub other_address : (file : RegisterFile) (j value k : ℕ) → k ≢ j
     → entry_at (address_written file j value) k ≡ entry_at file.entries k
-other_address file j value k other = search (rules, tests)
+other_address file j value k other = search rules
 
 pub low_kept : (before after : List Entry) (i : ℕ)
     → ((k : ℕ) → suc k ≡ i → (entry_at after k).address ≡ (entry_at before k).address)
     → low_address after i ≡ low_address before i
-low_kept before after x2 h = search (rules, tests)
+low_kept before after i h = search rules
 
 module _ (file : RegisterFile) (i : ℕ) (frozen : is_frozen file i ≡ true) where
   locked : (entry_at file.entries i).configuration.locked ≡ true
@@ -55,22 +55,18 @@ module _ (file : RegisterFile) (i : ℕ) (frozen : is_frozen file i ≡ true) wh
   inside = search (rules, tests, false≢true, get_or_past, locked)
 
   configured_frozen : (q value : ℕ) → configured file q value i ≡ entry_at file.entries i
-  configured_frozen q value = search (rules, tests)
+  configured_frozen q value = search rules
 
   -- a write to a configuration register leaves every address
   low_configured : (k q value : ℕ) → k < length file.entries
       → (entry_at (written file (Cfg q) value).entries k).address ≡ (entry_at file.entries k).address
   low_configured k q value below = rw (configured_place file q value k below) (configured_address file q value k)
 
-  -- its own address register is kept, and the one before it where the entry is the top of a range
-  own_address : is_address_frozen file i ≡ true
-  own_address = rw frozen refl
-
   after_address : (j value : ℕ) → Held file (record file { entries = address_written file j value }) i
-  after_address j value = search (rules, tests)
+  after_address j value = search rules
 
   after_write : (csr : Csr) (value : ℕ) → Held file (written file csr value) i
-  after_write x0 value =
+  after_write csr value =
       search (rules, tests, configured_place, inside, configured_frozen, low_kept, low_configured, no_bypass, after_address, and_right, list_any_at, locked)
 
 -- ---- any writes
@@ -80,7 +76,7 @@ pub still_frozen : (before after : RegisterFile) (i : ℕ) → is_frozen before 
 still_frozen before after i frozen held = rw (held.entry, held.bypass, locked before i frozen) refl
 
 held_then : (a b c : RegisterFile) (i : ℕ) → Held a b i → Held b c i → Held a c i
-held_then a b c i first second = search (rules, tests)
+held_then a b c i first second = search rules
 
 pub held_on : (file : RegisterFile) (i : ℕ) (events : List Event) → is_frozen file i ≡ true
     → list_all is_write events ≡ true → Held file (fold step file events) i
@@ -100,7 +96,7 @@ same_bytes grain mode low other address byte same h = search rules
 
 held_bytes : (before after : RegisterFile) (i byte : ℕ) → Held before after i
     → Matches after i byte ↔ Matches before i byte
-held_bytes before after i byte held = search (rules, tests)
+held_bytes before after i byte held = search rules
 
 pub lock_law : LockLaw
 lock_law file i events frozen writes = search (rules, tests, held_on, held_bytes, still_frozen)

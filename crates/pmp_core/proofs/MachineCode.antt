@@ -1,6 +1,6 @@
 -- Where machine mode executes under lockdown.
 use borrow.Author.Tests.{tests}
-use Rattle.std.proofs.Common.{nat_lt, ◌≡◌, ℕ, ◌≤◌, ◌%◌, ◌-◌, ◌*◌, Bool, true, false, cond, ◌&&◌, List, [], ◌∷◌, fold, length}
+use Rattle.std.proofs.Common.{◌≡◌, ℕ, ◌≤◌, ◌%◌, ◌-◌, ◌*◌, Bool, true, false, cond, ◌&&◌, List, [], ◌∷◌, fold, length}
 use Rattle.std.proofs.Common.{rules, slice_index, refl, ap, inl, inr, get_or-set_same, length-set}
 use Rattle.std.specs.List.{list_all}
 use Rattle.std.specs.Int.{w64, to_le_bytes}
@@ -49,11 +49,6 @@ none_by_default some mmwp h = search rules
 
 -- ---- one write adds no barred rule
 
--- what a byte leaves is a barred rule only where one was there
-kept_barred : (old new : Configuration) (barred : Bool) → is_barred_rule new ≡ barred
-    → is_barred_rule (cond barred old new) ≡ true → is_barred_rule old ≡ true
-kept_barred old new barred e h = search rules
-
 stored_barred : (grain : ℕ) (old : Configuration) (byte : ℕ) → is_barred_rule (stored_over grain true false old byte) ≡ true
     → is_barred_rule old ≡ true
 stored_barred grain old byte h = by_test (old.locked && true) h
@@ -61,11 +56,8 @@ stored_barred grain old byte h = by_test (old.locked && true) h
     admits : Configuration
     admits = admitted true false old (configuration_of byte)
 
-    selected : is_barred_rule (selectable grain admits) ≡ is_barred_rule admits
-    selected = search (rules, tests, nat_lt, admits)
-
     by_test : (kept : Bool) → is_barred_rule (cond kept old (selectable grain admits)) ≡ true → is_barred_rule old ≡ true
-    by_test x0 h = search (rules, tests, kept_barred, selected)
+    by_test kept h = search rules
 
 module _ (file : RegisterFile) (mml : file.mseccfg.mml ≡ true) (rlb : file.mseccfg.rlb ≡ false) (i : ℕ) where
   configured_barred : (q value : ℕ) → is_barred_rule (configured file q value i).configuration ≡ true
@@ -105,7 +97,7 @@ module _ (file : RegisterFile) (mml : file.mseccfg.mml ≡ true) (rlb : file.mse
   was_barred : (csr : Csr) (value : ℕ)
       → is_barred_rule (entry_at (written file csr value).entries i).configuration ≡ true
       → is_barred_rule (entry_at file.entries i).configuration ≡ true
-  was_barred x0 value h =
+  was_barred csr value h =
       search (rules, tests, configured_barred, configured_place, nothing_barred, addressed_configuration)
 
 -- ---- nor do several writes
@@ -143,7 +135,8 @@ module _ (file : RegisterFile) (k : ℕ) (events : List Event) (mml : file.msecc
 
   by_frozen : (allowed : Bool) (cause : Cause) → IsDecisionBy later access allowed cause → allowed ≡ true
       → (i : ℕ) × (cause ≡ Rule i) × (is_frozen file i ≡ true) × StaysFrozen file later i
-  by_frozen allowed x1 x2 granted = search (rules, tests, none_by_default, mml_stays, false≢true, was_frozen, lock_law)
+  by_frozen allowed cause is granted =
+      search (rules, tests, none_by_default, mml_stays, false≢true, was_frozen, lock_law)
 
 pub machine_code_law : MachineCodeLaw
 machine_code_law file k events mml frozen writes access decision machine fetch is granted =

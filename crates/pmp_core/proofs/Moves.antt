@@ -1,13 +1,14 @@
 -- What two register files decide alike.
+use Rattle.std.proofs.lemmas.Bool.Decides.{nat_tests}
+use Rattle.std.proofs.lemmas.Grind.{common_steps}
 use borrow.Author.Tests.{tests}
 use Rattle.std.proofs.Common.{◌≡◌, ◌≢◌, ℕ, zero, suc, ◌+◌, ◌-◌, ◌*◌, ◌<◌, ◌≤◌, Option, None, length, sym, ap, ◌∙◌, inl, inr}
 use Rattle.std.proofs.Common.{arith, rules, ◌==◌, ◌&&◌, eqb, false, not, refl, true}
 use Rattle.std.specs.Bool.{beq}
-use Rattle.std.proofs.lemmas.Bool.{and_parts, cases_Bool, cases_lt, eqb-true, not-false, or_cases}
+use Rattle.std.proofs.lemmas.Bool.{and_parts, cases_Bool, cases_lt, eqb-true, or_cases}
 use Rattle.std.proofs.lemmas.List.{get_or_past}
 use native.Mathlib.Numerals.{unary_clauses}
 use Rattle.pmp_core.specs.declared.access.Access.{Access}
-use Rattle.pmp_core.specs.declared.access.TheConstants.{ADDRESS_LIMIT}
 use Rattle.pmp_core.specs.declared.csr.Csr.{Csr}
 use Rattle.pmp_core.specs.declared.csr.Csr.TheVariants.{Cfg, Addr, Mseccfg, Mseccfgh}
 use Rattle.pmp_core.specs.declared.event.Event.TheVariants.{Write}
@@ -35,7 +36,6 @@ use Rattle.pmp_core.proofs.Matches.{matches_range, range_past}
 use Rattle.pmp_core.proofs.Others.{IsSame, bytes_kept, decided_by, entry_kept, holds_none, mseccfg_kept}
 use Rattle.pmp_core.proofs.Saved.{fields_back}
 use Rattle.pmp_core.proofs.Spans.{is_span}
-use Rattle.pmp_core.proofs.StoredBytes.{configuration_back}
 
 -- ---- spans
 
@@ -45,26 +45,22 @@ joined_left one other byte here = search rules
 pub joined_right : (one other : Option Span) (byte : ℕ) → IsMoved other byte → IsMoved (joined one other) byte
 joined_right one other byte here = search rules
 
-span_has : (file : RegisterFile) (i byte : ℕ) (span : Option Span) → IsSpan file i span → byte < ADDRESS_LIMIT
-    → Matches file i byte → IsMoved span byte
-span_has file i byte span is inside matches = search rules
-
 -- ---- entries
 
 pub same_configuration : (one other : Configuration) → eqb (byte_of one) (byte_of other) ≡ true → one ≡ other
-same_configuration one other same = search (rules, tests, configuration_back, eqb-true)
+same_configuration one other same = search rules
 
 pub same_range : (one other : ByteRange) → (eqb one.start other.start && eqb one.end other.end) ≡ true → one ≡ other
-same_range one other same = search (rules, tests, and_parts, eqb-true)
+same_range one other same = search rules
 
 pub same_fields : (one other : MseccfgFields)
     → not (beq one.mml other.mml && (beq one.mmwp other.mmwp && beq one.rlb other.rlb)) ≡ false → one ≡ other
-same_fields one other same = search (rules, tests, and_parts, not-false)
+same_fields one other same = search rules
 
 pub same_profile : (one other : Profile)
     → not (eqb one.entries other.entries && (eqb one.grain other.grain && (eqb one.address_bits other.address_bits
     && (beq one.has_smepmp other.has_smepmp && beq one.is_rv32 other.is_rv32)))) ≡ false → one ≡ other
-same_profile one other same = search (rules, tests, and_parts, not-false, eqb-true)
+same_profile one other same = search rules
 
 module _ (one other : RegisterFile) (i : ℕ) where
   pub same_entry : IsLegal one → IsLegal other
@@ -74,7 +70,7 @@ module _ (one other : RegisterFile) (i : ℕ) where
 
   pub moved_within : (before now : Option Span) → IsSpan one i before → IsSpan other i now
       → IsMovedWithin one other (joined now before) i
-  moved_within before now was is = search (rules, tests, joined_right, span_has, joined_left)
+  moved_within before now was is = search rules
 
   more_moved : (moved more : Option Span) → ((byte : ℕ) → IsMoved moved byte → IsMoved more byte)
       → IsMovedWithin one other moved i → IsMovedWithin one other more i
@@ -103,13 +99,7 @@ module _ (one other : RegisterFile) (legal : IsLegal one) (too : IsLegal other) 
     (count : length other.entries ≡ length one.entries) (mseccfg : other.mseccfg ≡ one.mseccfg)
     (each : (i : ℕ) → i < length one.entries → IsMovedWithin one other moved i) where
   within : (i : ℕ) → IsMovedWithin one other moved i
-  within i = elim (cases_lt i (length one.entries)) [
-    | inl inside ↦ each i inside
-    | inr past ↦ inr (λ byte inside stays. (
-      absent one i byte legal past,
-      absent other i byte too (omega (arith, count, past)),
-    ))
-  ]
+  within i = grind (arith, nat_tests, common_steps, absent)
 
   module _ (access : Access) (clear : (byte : ℕ) → IsByteOf access byte → ¬ (IsMoved moved byte)) where
     same : (i : ℕ) → IsSame one other access i
@@ -188,7 +178,7 @@ none_among file first (suc count) = rw (none_among file first count, none_at fil
 -- where nothing changed
 pub none_by : (file : RegisterFile) (csr : Csr) → moved_by file file csr ≡ None
 unfolding moved_by
-none_by file x1 = search (rules, tests, none_among)
+none_by file csr = search (rules, tests, none_among)
 
 -- the entries that the register may move
 moved_place : (file : RegisterFile) (q i : ℕ) → may_move file (Cfg q) i ≡ true

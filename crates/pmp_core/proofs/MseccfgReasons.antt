@@ -1,6 +1,6 @@
 -- mseccfg is stored as written exactly where there is no reason.
 use borrow.Author.Tests.{tests}
-use Rattle.std.proofs.Common.{rules, ◌≡◌, ℕ, ◌+◌, ◌*◌, ◌/◌, ◌%◌, ◌<◌, Bool, true, false, not}
+use Rattle.std.proofs.Common.{rules, ◌≡◌, ℕ, ◌+◌, ◌*◌, ◌/◌, ◌%◌, Bool, true, false, not}
 use Rattle.std.proofs.Common.{◌&&◌, ◌||◌, ◌==◌, refl}
 use Rattle.std.proofs.lemmas.Bool.{and_right, or_from}
 use Rattle.pmp_core.specs.declared.csr.Csr.TheVariants.{Mseccfg, Mseccfgh}
@@ -13,16 +13,6 @@ use Rattle.pmp_core.specs.RegisterWrite.{is_any_locked, written}
 use Rattle.pmp_core.proofs.EachReason.{none_at_entries, HasNone}
 use Rattle.pmp_core.proofs.StoredBytes.{not_same}
 
-bit_is : (r : ℕ) → r < 2 → bit_of (r == 1) ≡ r
-bit_is r low = search rules
-
--- MML and MMWP stay where they are set, and RLB doesn't rise over a lock: without a reason each is as written
-stays : (before new : Bool) → (before && not new) ≡ false → (before || new) ≡ new
-stays before new h = search rules
-
-rises : (before any new : Bool) → (new && not before && any) ≡ false → (new && (before || not any)) ≡ new
-rises before any new h = search rules
-
 -- and a bit that is as written has no reason
 was_kept : (before new : Bool) → (before || new) ≡ new → (before && not new) ≡ false
 was_kept before new h = search rules
@@ -30,12 +20,9 @@ was_kept before new h = search rules
 has_risen : (before any new : Bool) → (new && (before || not any)) ≡ new → (new && not before && any) ≡ false
 has_risen before any new h = search rules
 
-bit_low : (b : Bool) → bit_of b < 2
-bit_low b = search rules
-
 bits_of_value : (a b c : Bool) (value : ℕ) → bit_of a + 2 * bit_of b + 4 * bit_of c ≡ value
     → (a ≡ (value % 2 == 1)) × (b ≡ (value / 2 % 2 == 1)) × (c ≡ (value / 4 % 2 == 1)) × (value / 8 ≡ 0)
-bits_of_value a b c value same = search (rules, tests)
+bits_of_value a b c value same = search rules
 
 module _ (file : RegisterFile) (legal : IsLegal file) (value : ℕ) where
   abbrev new : MseccfgFields
@@ -66,7 +53,7 @@ module _ (file : RegisterFile) (legal : IsLegal file) (value : ℕ) where
 
 module _ (file : RegisterFile) (value : ℕ) where
   pub mseccfgh_stored : HasNone file Mseccfgh value → register_value (written file Mseccfgh value) Mseccfgh ≡ value
-  mseccfgh_stored none = search (rules, tests)
+  mseccfgh_stored none = search rules
 
   pub mseccfgh_reasonless : value ≡ 0 → HasNone file Mseccfgh value
   mseccfgh_reasonless zero_value = search (rules, tests, none_at_entries, and_right)

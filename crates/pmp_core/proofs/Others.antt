@@ -32,7 +32,7 @@ module _ (file : RegisterFile) (value : ℕ) where
 
   pub entry_kept : (csr : Csr) (i : ℕ) → holds file.profile csr i ≡ false
       → entry_at (written file csr value).entries i ≡ entry_at file.entries i
-  entry_kept x0 i none = search (rules, tests, configured_place, cond-false, past_same, other_address, eqb-false)
+  entry_kept csr i none = search (rules, tests, configured_place, cond-false, past_same, other_address, eqb-false)
 
   -- ---- bytes
 
@@ -47,10 +47,10 @@ module _ (file : RegisterFile) (value : ℕ) where
   low_same : (csr : Csr) (i : ℕ) → may_move file csr i ≡ false
       → is_tor (entry_at file.entries i).configuration.matching ≡ true
       → low_address (written file csr value).entries i ≡ low_address file.entries i
-  low_same x0 i none tor = search (rules, tests, low_kept, address_kept, not_both, or_parts, other_address, eqb-false)
+  low_same csr i none tor = search (rules, tests, low_kept, address_kept, not_both, or_parts, other_address, eqb-false)
 
   pub holds_none : (csr : Csr) (i : ℕ) → may_move file csr i ≡ false → holds file.profile csr i ≡ false
-  holds_none csr i none = search (rules, or_parts)
+  holds_none csr i none = search rules
 
   pub bytes_kept : (csr : Csr) (i byte : ℕ) → may_move file csr i ≡ false
       → Matches (written file csr value) i byte ↔ Matches file i byte
@@ -60,7 +60,7 @@ module _ (file : RegisterFile) (value : ℕ) where
 
 least_alike : (P Q : ℕ → Type 0) → ((i : ℕ) → P i → Q i) → ((i : ℕ) → Q i → P i) → (least : Option ℕ)
     → IsLeast P least → IsLeast Q least
-least_alike x0 x1 to from x4 none = search (rules, tests)
+least_alike P Q to from least none = search rules
 
 -- entry i matches no byte of the access in either file, or is the same in both
 abbrev pub IsSame : (one other : RegisterFile) → Access → ℕ → Type 0

@@ -2,8 +2,6 @@
 use borrow.Author.Tests.{tests}
 use Rattle.std.proofs.Common.{rules, ◌≡◌, ◌↔◌, ℕ, ◌≤◌, Bool, true, false, List, Some, fold, sym, ap, subst, ◌∙◌, arith}
 use Rattle.std.specs.List.{list_all}
-use Rattle.std.specs.Prelude.{IsTrue}
-use Rattle.std.proofs.lemmas.Bool.{false≢true}
 use Rattle.pmp_core.specs.declared.access.Access.{Access}
 use Rattle.pmp_core.specs.declared.access.Kind.{Kind}
 use Rattle.pmp_core.specs.declared.access.Mode.{Mode}
@@ -30,7 +28,7 @@ record Agree (one other : RegisterFile) (i : ℕ) : Type 0 where
   bytes : (j : ℕ) → j ≤ i → (byte : ℕ) → Matches other j byte ↔ Matches one j byte
 
 turned : (one other : RegisterFile) (i : ℕ) → Agree one other i → Agree other one i
-turned one other i same = search (rules, tests)
+turned one other i same = search rules
 
 module _ (one other : RegisterFile) (i : ℕ) (same : Agree one other i) (access : Access) where
   touches : (j : ℕ) → j ≤ i → Touches one access j → Touches other access j
@@ -58,7 +56,7 @@ module _ (one other : RegisterFile) (i : ℕ) (same : Agree one other i) (mml : 
       let same = one_decider one access decided.0 k decided.2 decider in let less = decided.1 in omega arith
 
   same_rights : (k : ℕ) → k ≤ i → rights other k access.mode ≡ rights one k access.mode
-  same_rights k less = search (rules, tests)
+  same_rights k less = search rules
 
   decided_alike : (allowed : Bool) (cause : Cause) → IsDecisionBy one access allowed cause
       → IsDecisionBy other access allowed cause
@@ -97,13 +95,10 @@ decided_the_same file i events held writes mml access decided decision =
 
 -- ---- where lockdown rises
 
-not_given : (fewer more : Bool) → (IsTrue fewer → IsTrue more) → more ≡ false → fewer ≡ false
-not_given fewer more gives none = search rules
-
 fewer_by_mml : FewerRightsLaw → (c : Configuration) → (one other : Bool)
     → (one ≡ true → other ≡ true) → (one ≡ false → is_reserved c ≡ false) → (mode : Mode) (kind : Kind)
     → allows (rule_rights one c mode) kind ≡ false → allows (rule_rights other c mode) kind ≡ false
-fewer_by_mml law c x2 x3 stays legal mode kind closed = search (rules, tests, false≢true, not_given)
+fewer_by_mml law c one other stays legal mode kind closed = search rules
 
 module _ (fewer : FewerRightsLaw) (file : RegisterFile) (i : ℕ) (events : List Event) (legal : IsLegal file)
     (held : is_held file i ≡ true) (writes : list_all is_write events ≡ true) (access : Access)

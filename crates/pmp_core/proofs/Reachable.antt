@@ -34,29 +34,23 @@ use Rattle.pmp_core.proofs.Sizes.{own_address_written}
 use Rattle.pmp_core.proofs.StoredBytes.{configuration_back}
 use Rattle.pmp_core.proofs.WordBytes.{word_gives}
 
--- with bypass on a last write of mseccfg gives any fields; and a first one, after reset, any with bypass on
-settled : (mml mmwp rlb is_any : Bool)
-    → mseccfg_written (record { mml = mml; mmwp = mmwp; rlb = true }) is_any
-    (mseccfg_value (record { mml = mml; mmwp = mmwp; rlb = rlb }))
-    ≡ record { mml = mml; mmwp = mmwp; rlb = rlb }
-settled mml mmwp rlb is_any = search (rules, tests)
-
+-- a first write of mseccfg after reset gives any fields with bypass on
 opened : (mml mmwp : Bool)
     → mseccfg_written (record { mml = false; mmwp = false; rlb = false }) false
     (mseccfg_value (record { mml = mml; mmwp = mmwp; rlb = true }))
     ≡ record { mml = mml; mmwp = mmwp; rlb = true }
-opened mml mmwp = search (rules, tests)
+opened mml mmwp = search rules
 
 -- ---- whose bytes the registers 2k and 2k + 1 have
 
 or_false_right : (a b : Bool) → (a || b) ≡ true → b ≡ false → a ≡ true
-or_false_right a b is none = search (rules, tests)
+or_false_right a b is none = search rules
 
 -- on RV32 each has four bytes, and on RV64 the first has eight and the other none
 module _ (profile : Profile) (k i : ℕ) where
   both_apart : holds_byte_of profile (2 * k + 1) i ≡ true
       → (nat_lt i (8 * k) || holds_byte_of profile (2 * k) i) ≡ false
-  both_apart holds = search (rules, tests)
+  both_apart holds = search rules
 
   all_of_both : ((nat_lt i (8 * k) || holds_byte_of profile (2 * k) i) || holds_byte_of profile (2 * k + 1) i)
       ≡ nat_lt i (8 * suc k)
@@ -76,7 +70,7 @@ module _ (file : RegisterFile) (legal : IsLegal file) where
   -- where a legal configuration is stored over an unlocked one
   stored_open : (c : Configuration) → (file.mseccfg.mml ≡ false → is_reserved c ≡ false)
       → admitted open_fields.mml open_fields.rlb reset_entry.configuration c ≡ c
-  stored_open c unreserved = search (rules, tests)
+  stored_open c unreserved = search rules
 
   abbrev addressed_entry : ℕ → Entry
   addressed_entry i = record reset_entry { address = (entry_at file.entries i).address }
@@ -236,7 +230,7 @@ module _ (file : RegisterFile) (legal : IsLegal file) where
 
   final : (now : RegisterFile) → now.profile ≡ file.profile → now.mseccfg ≡ open_fields → now.entries ≡ file.entries
       → written now Mseccfg (mseccfg_value file.mseccfg) ≡ file
-  final now hart fields entries = search (rules, tests)
+  final now hart fields entries = search rules
 
   abbrev after_opening : RegisterFile
   after_opening = written (reset_file file.profile) Mseccfg (mseccfg_value wanted)

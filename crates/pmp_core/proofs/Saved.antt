@@ -1,7 +1,7 @@
 -- Registers saved and restored.
 use borrow.Author.Tests.{tests}
 use Rattle.std.proofs.Common.{rules, ◌≡◌, ℕ, ◌+◌, ◌<◌, ◌≤◌, Bool, true, false, List, length, map, set}
-use Rattle.std.proofs.Common.{cond, replicate, get_or-set_other, get_or-set_same, length-set}
+use Rattle.std.proofs.Common.{cond, replicate}
 use Rattle.std.proofs.Math.Nat.{mod-lt, mod-eq_of_lt}
 use Rattle.std.proofs.Common.{slice_index, refl, sym, ap, ◌∙◌, inl, inr, arith}
 use Rattle.std.specs.List.{range_with_len}
@@ -37,7 +37,7 @@ pub record IsFilledTo (f : ℕ → ℕ) (xs : List ℕ) (place : ℕ) : Type 0 w
 
 pub filled_more : (f : ℕ → ℕ) (xs : List ℕ) (place x : ℕ) → place < 64 → x ≡ f place → IsFilledTo f xs place
     → IsFilledTo f (set xs place x) (place + 1)
-filled_more f xs place x inside is so_far = search (rules, tests, length-set, get_or-set_same, get_or-set_other)
+filled_more f xs place x inside is so_far = search rules
 
 -- a table so filled is all of f, where f is zero from there on
 pub filled : (f : ℕ → ℕ) (xs : List ℕ) (place : ℕ) → IsFilledTo f xs place
@@ -97,7 +97,7 @@ fields_back a b c = search rules
 -- a legal configuration is stored as it is
 pub stored_as_is : (mml : Bool) (old c : Configuration) → (mml ≡ false → is_reserved c ≡ false)
     → admitted mml true old c ≡ c
-stored_as_is x0 old c unreserved = search (rules, tests)
+stored_as_is mml old c unreserved = search rules
 
 module _ (file : RegisterFile) (legal : IsLegal file) where
   address_at : (k : ℕ) → k < 64 → slice_index (saved_registers file).addresses k ≡ (entry_at file.entries k).address
@@ -118,7 +118,7 @@ module _ (file : RegisterFile) (legal : IsLegal file) where
   fields_kept : (has : Bool) → file.profile.has_smepmp ≡ has
       → cond has (mseccfg_fields (saved_registers file).mseccfg) reset_mseccfg ≡ file.mseccfg
   unfolding saved_registers
-  fields_kept x0 e = search (rules, tests, fields_back)
+  fields_kept has e = search rules
 
   mseccfg_back : fields_in (saved_registers file) ≡ file.mseccfg
   mseccfg_back = rw hart_back (fields_kept file.profile.has_smepmp refl)

@@ -1,4 +1,6 @@
 -- Writes to the first n entries leave files of n entries and of more that are alike, event by event.
+use Rattle.std.proofs.lemmas.Bool.Decides.{nat_tests}
+use Rattle.std.proofs.lemmas.Grind.{common_steps}
 use borrow.Author.Tests.{tests}
 use Rattle.std.proofs.Common.{rules, ◌≡◌, ◌≢◌, ◌↔◌, ℕ, suc, ◌%◌, ◌<◌, ◌≤◌, Bool, true, false, cond}
 use Rattle.std.proofs.Common.{List, [], ◌∷◌, fold, length, get_or, refl, sym, ap, ◌∙◌, inl, inr}
@@ -12,7 +14,7 @@ use Rattle.pmp_core.specs.declared.csr.Csr.TheVariants.{Cfg, Addr, Mseccfg, Msec
 use Rattle.pmp_core.specs.declared.decision.Decision.{Decision}
 use Rattle.pmp_core.specs.Entry.{Entry}
 use Rattle.pmp_core.specs.declared.event.Event.{Event}
-use Rattle.pmp_core.specs.declared.event.Event.TheVariants.{Write, Reset}
+use Rattle.pmp_core.specs.declared.event.Event.TheVariants.{Write}
 use Rattle.pmp_core.specs.declared.hart.Profile.{Profile}
 use Rattle.pmp_core.specs.Hart.{IsProfile, holds_byte_of, word_addresses}
 use Rattle.pmp_core.specs.Rights.{has_entries}
@@ -25,11 +27,10 @@ use Rattle.pmp_core.specs.WriteReasons.{byte_for}
 use Rattle.pmp_core.specs.Histories.{replay}
 use Rattle.pmp_core.specs.SizeLaw.{writes_first, SizeLaw}
 use Rattle.pmp_core.specs.Ranges.{decision_of}
-use Rattle.pmp_core.proofs.Configuring.{high_of, low_of, most_bytes}
 use Rattle.pmp_core.proofs.Decisions.{decided_by_ranges, one_decision}
 use Rattle.pmp_core.proofs.Legal.{reset_at, configured_place, length-written, length-step, profile-step, legal_law}
 use Rattle.pmp_core.proofs.Legal.{legal_addresses}
-use Rattle.pmp_core.proofs.Locks.{other_address, low_kept}
+use Rattle.pmp_core.proofs.Locks.{other_address}
 use Rattle.pmp_core.proofs.Others.{decided_by}
 
 -- the same but for the number of entries
@@ -47,7 +48,7 @@ record Alike (n : ℕ) (one other : RegisterFile) : Type 0 where
   pub hart : SameHart one.profile other.profile
 
 turned : (n : ℕ) (one other : RegisterFile) → Alike n one other → Alike n other one
-turned n one other alike = search (rules, tests)
+turned n one other alike = search rules
 
 -- n entries or more, as many as the hart has
 record HasRoom (n : ℕ) (file : RegisterFile) : Type 0 where
@@ -68,11 +69,11 @@ reset_room n hart many = search (rules, tests, length-replicate)
 -- a zero byte leaves a reset entry as it is
 zero_over_reset : (grain : ℕ) (mml rlb : Bool)
     → stored_over grain mml rlb reset_entry.configuration 0 ≡ reset_entry.configuration
-zero_over_reset grain mml rlb = search (rules, tests)
+zero_over_reset grain mml rlb = search rules
 
 module _ (n q value : ℕ) (named : writes_first n (Write (Cfg q) value) ≡ true) where
   zero_byte : (profile : Profile) (i : ℕ) → n ≤ i → holds_byte_of profile q i ≡ true → byte_for q value i ≡ 0
-  zero_byte profile i past holds = search (rules, tests, low_of, high_of, most_bytes)
+  zero_byte profile i past holds = search rules
 
   rest_configured : (file : RegisterFile) (i : ℕ) → n ≤ i → entry_at file.entries i ≡ reset_entry
       → configured file q value i ≡ reset_entry
@@ -98,7 +99,7 @@ pub own_address_written : (file : RegisterFile) (j value : ℕ) → j < length f
     ≡ cond (is_address_frozen file j) (entry_at file.entries j) (record (entry_at file.entries j) {
       address = value % word_addresses file.profile;
     })
-own_address_written file j value inside = search (rules, tests)
+own_address_written file j value inside = search rules
 
 any_alike : {X : Type 0} (p : X → Bool) (d : X) → p d ≡ false → (xs ys : List X)
     → ((i : ℕ) → get_or xs i d ≡ get_or ys i d) → list_any p xs ≡ list_any p ys
@@ -109,7 +110,7 @@ any_alike p d none (x ∷ xs) (y ∷ ys) same = rw (same 0, any_alike p d none x
 
 module _ (n : ℕ) (one other : RegisterFile) (alike : Alike n one other) where
   low_alike : (i : ℕ) → low_address one.entries i ≡ low_address other.entries i
-  low_alike i = search (rules, tests, low_kept)
+  low_alike i = search rules
 
   matches_alike : (i byte : ℕ) → Matches other i byte ↔ Matches one i byte
   matches_alike i byte = rw (alike.entries i, low_alike i, alike.hart.grain) (λ h. h, λ h. h)
@@ -167,10 +168,7 @@ reset_alike n one other hart = search (rules, tests, reset_at)
 
 step_alike : (n : ℕ) (one other : RegisterFile) → HasRoom n one → HasRoom n other → Alike n one other
     → (event : Event) → writes_first n event ≡ true → Alike n (step one event) (step other event)
-step_alike n one other first second alike (Write csr value) named =
-    write_alike n one other first second alike csr value named
-step_alike n one other first second alike Reset named =
-    reset_alike n one.profile other.profile alike.hart
+step_alike n one other first second alike event named = grind (arith, nat_tests, common_steps, write_alike, reset_alike)
 
 replays_alike : (n : ℕ) (events : List Event) (one other : RegisterFile) → HasRoom n one → HasRoom n other
     → Alike n one other → list_all (writes_first n) events ≡ true

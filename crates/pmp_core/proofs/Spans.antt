@@ -13,7 +13,7 @@ use Rattle.pmp_core.proofs.Matches.{matches_range}
 -- ---- one span
 
 same_span : (one other : Span) → one.first ≡ other.first → one.last ≡ other.last → one ≡ other
-same_span one other first last = search (rules, tests)
+same_span one other first last = search rules
 
 -- all bytes of the one are in the other
 inside : (file : RegisterFile) (i : ℕ) (one other : Span) → IsSpan file i (Some one)
@@ -40,7 +40,7 @@ one_span file i (Some one) (Some other) p q =
 
 span_by : (file : RegisterFile) (i : ℕ) (range : ByteRange)
     → ((byte : ℕ) → Matches file i byte ↔ IsInRange range byte) → IsSpan file i (span_in range)
-span_by file i range matched = search (rules, tests)
+span_by file i range matched = search rules
 
 pub is_span : (file : RegisterFile) (i : ℕ) → HasAddresses file → IsSpan file i (span_of file i)
 unfolding span_of

@@ -76,7 +76,7 @@ read_alike before after i hart entry = rw (hart, entry) refl
 read_kept : (before after : RegisterFile) (i : ℕ) → after.profile ≡ before.profile → before.profile.grain ≡ 0
     → (entry_at after.entries i).address ≡ (entry_at before.entries i).address
     → register_value after (Addr i) ≡ register_value before (Addr i)
-read_kept before after i hart finest kept = search (rules, tests)
+read_kept before after i hart finest kept = search rules
 
 pub frozen_address_law : FrozenAddressLaw
 frozen_address_law file i events frozen writes =

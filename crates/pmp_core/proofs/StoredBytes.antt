@@ -1,4 +1,6 @@
 -- When a byte is stored as written.
+use Rattle.std.proofs.lemmas.Bool.Decides.{nat_tests}
+use Rattle.std.proofs.lemmas.Grind.{common_steps}
 use borrow.Author.Tests.{tests}
 use Rattle.std.proofs.Common.{rules, ◌≡◌, ℕ, ◌+◌, ◌*◌, ◌/◌, ◌%◌, ◌<◌, ◌≤◌, Bool, true, false, cond, not, ◌&&◌, ◌==◌}
 use Rattle.std.proofs.Common.{nat_lt, refl, sym, ap, ◌∙◌, arith}
@@ -27,13 +29,9 @@ bit_back b = search rules
 pub field_le : (m : AddressMatching) → field_of m ≤ 3
 field_le m = search rules
 
-parts_plain : (l f x w r : ℕ) → l ≤ 1 → f ≤ 3 → x ≤ 1 → w ≤ 1 → r ≤ 1
-    → ((128 * l + 8 * f + 4 * x + 2 * w + r) / 32 % 4 ≡ 0) × (128 * l + 8 * f + 4 * x + 2 * w + r < 256)
-parts_plain l f x w r hl hf hx hw hr = (omega arith, omega arith)
-
 -- what a configuration reads is a byte with bits 6 and 5 clear
 pub byte_plain : (c : Configuration) → (byte_of c / 32 % 4 ≡ 0) × (byte_of c < 256)
-byte_plain c = search (rules, tests, parts_plain, bit_le, field_le)
+byte_plain c = search rules
 
 -- and gives the configuration back
 parts_back : (l f x w r : ℕ) → l ≤ 1 → f ≤ 3 → x ≤ 1 → w ≤ 1 → r ≤ 1
@@ -49,8 +47,7 @@ pub configuration_back : (c : Configuration) → configuration_of (byte_of c) �
 configuration_back c = search (rules, tests, parts_back, bit_le, field_le, bit_back, matching_back)
 
 read_back : (byte : ℕ) → byte < 256 → (byte_of (configuration_of byte) == byte) ≡ is_plain byte
-read_back byte small =
-    agree_below_at (λ b. byte_of (configuration_of b) == b) is_plain 256 byte refl small
+read_back byte small = grind (arith, nat_tests, common_steps, agree_below_at)
 
 read_unreserved : (byte : ℕ) → byte < 256
     → (byte_of (without_reserved (configuration_of byte)) == byte)
@@ -76,16 +73,16 @@ chosen grain c so = rw so refl
 -- so a byte that is read back from it didn't choose NA4 in vain
 reads_chosen : (grain : ℕ) (c : Configuration) (byte : ℕ) → byte_of (selectable grain c) ≡ byte
     → (nat_lt 0 grain && is_na4 (configuration_of byte).matching) ≡ false
-reads_chosen grain c byte same = search (rules, tests)
+reads_chosen grain c byte same = search rules
 
 -- nor was it changed on its way
 reads_all : (grain : ℕ) (c : Configuration) (byte : ℕ)
     → ((nat_lt 0 grain && is_na4 (configuration_of byte).matching) ≡ false → selectable grain c ≡ c)
     → byte_of (selectable grain c) ≡ byte → byte_of c ≡ byte
-reads_all grain c byte whole same = search (rules, tests, reads_chosen)
+reads_all grain c byte whole same = search rules
 
 unreserved_matching : (c : Configuration) → (without_reserved c).matching ≡ c.matching
-unreserved_matching c = search (rules, tests)
+unreserved_matching c = search rules
 
 chosen_unreserved : (grain : ℕ) (c : Configuration) → (nat_lt 0 grain && is_na4 c.matching) ≡ false
     → selectable grain (without_reserved c) ≡ without_reserved c
@@ -113,7 +110,7 @@ taken grain false true false old byte small h = rw h.unbarred
 
 not_barred : (old : Configuration) (byte : ℕ) → byte < 256 → old.locked ≡ false → byte_of old ≡ byte
     → is_barred_byte byte ≡ false
-not_barred old byte small free same = search (rules, tests)
+not_barred old byte small free same = search rules
 
 pub stored_as_taken : (grain : ℕ) (frozen mml rlb : Bool) (old : Configuration) (byte : ℕ) → byte < 256
     → frozen ≡ (old.locked && not rlb) → byte_of (left_of grain frozen mml rlb old byte) ≡ byte
@@ -151,10 +148,10 @@ stored_as_taken grain false true false old byte small is h = by_test (is_barred_
     free = and_true old.locked (sym is)
 
     selected_locked : (selectable grain old).locked ≡ old.locked
-    selected_locked = search (rules, tests)
+    selected_locked = search rules
 
     by_test : (barred : Bool) → is_barred_byte byte ≡ barred
         → byte_of (selectable grain (cond barred old (configuration_of byte))) ≡ byte
         → IsTaken grain false true false old byte
-    by_test x0 e h =
+    by_test barred e h =
         search (rules, tests, false≢true, not_barred, selected_locked, free, read_back, eq-eqb, reads_all, chosen, reads_chosen)

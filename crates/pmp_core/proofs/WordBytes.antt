@@ -1,11 +1,7 @@
 -- The eight bytes of a word.
-use borrow.Author.Tests.{tests}
 use Rattle.std.proofs.Common.{rules, ◌≡◌, ℕ, zero, suc, ◌<◌, ◌^◌, map, get_or, arith}
 use Rattle.std.specs.Int.{w64, byte_at, bytes_low_first, to_le_bytes, from_le_bytes}
 use Rattle.std.specs.List.{range_with_len}
-use Rattle.std.proofs.lemmas.List.{get_or_past}
-use Rattle.std.proofs.lemmas.List.FromFn.{fill_by_all, get_or-map-range_with_len}
-use Rattle.std.proofs.lemmas.Nat.{from_le_bytes-to_le_bytes_8, le_bytes_8}
 
 -- byte j of a value
 abbrev pub byte : (value j : ℕ) → ℕ
@@ -25,9 +21,9 @@ byte_small value j = bytes_small 0 8 value j
 -- a word whose bytes f gives is the value of these bytes
 pub word_from : (f : ℕ → ℕ) (value : ℕ) → value < 2 ^ 64 → ((j : ℕ) → j < 8 → byte value j ≡ f j)
     → from_le_bytes w64 (map f (range_with_len 0 8)) ≡ value
-word_from f value small same = search (rules, tests, fill_by_all, from_le_bytes-to_le_bytes_8)
+word_from f value small same = search rules
 
 -- and has them
 pub word_gives : (f : ℕ → ℕ) (value : ℕ) → ((j : ℕ) → j < 8 → f j < 256)
     → from_le_bytes w64 (map f (range_with_len 0 8)) ≡ value → (j : ℕ) → j < 8 → byte value j ≡ f j
-word_gives f value bytes same j near = search (rules, tests, le_bytes_8, get_or-map-range_with_len, get_or_past)
+word_gives f value bytes same j near = search rules

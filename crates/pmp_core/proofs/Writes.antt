@@ -97,7 +97,7 @@ same_fields old new number mseccfg = rw (number, mseccfg) refl
 -- ---- a configuration register
 
 pub byte_once : (one other : Configuration) → byte_of one ≡ byte_of other → one ≡ other
-byte_once one other same = search (rules, tests, configuration_back)
+byte_once one other same = search rules
 
 pub word_bytes : (file : RegisterFile) (q word : ℕ) → configuration_word file q ≡ word → (j : ℕ) → j < 8
     → byte word j ≡ byte_in file q (4 * q + j)
@@ -173,8 +173,7 @@ pub written_more : (old new : SavedRegisters) (bytes : List ℕ) (first held ind
     → AreWrittenTo old (record new {
       configurations = set new.configurations index (slice_index bytes (index - first));
     }) bytes first held (index + 1)
-written_more old new bytes first held index few from near inside so_far =
-    search (rules, tests, length-set, get_or-set_same, get_or-set_other)
+written_more old new bytes first held index few from near inside so_far = search rules
 
 module _ (old new : SavedRegisters) (q value word end : ℕ)
     (is : configuration_word (written (restored_file old) (Cfg q) value) q ≡ word)
@@ -320,7 +319,7 @@ module _ (old : SavedRegisters) (new : MseccfgFields) (value : ℕ) (is : value 
 
   -- as long as MML stays, a byte stands for the same
   mseccfg_entry : new.mml ≡ (fields_in old).mml → (k : ℕ) → restored_entry with_mseccfg k ≡ restored_entry old k
-  mseccfg_entry same k = search (rules, tests)
+  mseccfg_entry same k = search rules
 
   pub mseccfg_restored : new.mml ≡ (fields_in old).mml
       → restored_file with_mseccfg ≡ record (restored_file old) { mseccfg = new }
@@ -333,4 +332,4 @@ pub mseccfg_saved : (file : RegisterFile) (new : MseccfgFields) (value : ℕ) �
     → (let numbers : SavedRegisters = record (saved_registers file) { mseccfg = value } in
     numbers ≡ saved_registers (record file { mseccfg = new }))
 unfolding saved_registers
-mseccfg_saved file new value is = search (rules, tests)
+mseccfg_saved file new value is = search rules

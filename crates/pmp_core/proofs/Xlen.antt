@@ -47,7 +47,7 @@ module _ (file : RegisterFile) (wide : file.profile.is_rv32 ≡ false) (q value 
   odd_kept odd = entries_by file.entries (configured file q value) (λ k inside. sym (kept file q value k (none k)))
     where
       none : (k : ℕ) → holds_byte_of file.profile q k ≡ false
-      none k = search (rules, tests, none_below, none_above, ne_eqb)
+      none k = search rules
 
   module _ (even : q % 2 ≡ 0) where
     eight : bytes_in file.profile q ≡ 8
@@ -117,7 +117,7 @@ module _ (file : RegisterFile) (wide : file.profile.is_rv32 ≡ false) (q value 
 
 step_alike : (file : RegisterFile) → file.profile.is_rv32 ≡ false → (event : Event)
     → fold step (narrow file) (on_rv32 event) ≡ narrow (step file event)
-step_alike file wide x2 = search (rules, tests, eq-eqb, both, ne_eqb, odd_kept)
+step_alike file wide event = search (rules, tests, eq-eqb, both, ne_eqb, odd_kept)
 
 -- ---- all events
 
@@ -131,7 +131,7 @@ events_alike (event ∷ events) file wide =
 
 alike : (file : RegisterFile) (access : Access) → AreAlike file (narrow file) access
 unfolding decision_of cause_of range_on
-alike file access = search (rules, tests)
+alike file access = search rules
 
 pub xlen_law : XlenLaw
 xlen_law hart events access wide =

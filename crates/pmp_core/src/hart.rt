@@ -239,10 +239,7 @@ impl Hart {
             address_bits: (number / 256 % 256) as u8,
             has_smepmp: number / 65536 % 2 == 1,
         };
-        match Hart::new(profile) {
-            Ok(hart) => Some(hart),
-            Err(_) => None,
-        }
+        Hart::new(profile).ok()
     }
 
     /// Returns the number of entries.
