@@ -1,14 +1,14 @@
 -- What a unit's tables answer.
+use borrow.Author.Tests.{tests}
 use Rattle.std.proofs.Common.{◌≡◌, ℕ, ◌+◌, ◌-◌, ◌*◌, ◌%◌, ◌<◌, ◌≤◌, List, length, slice_index, Option, Some, None}
-use Rattle.std.proofs.Common.{IfSome, Bool, true, false, nat_lt, refl, ap, ◌∙◌, arith, inl}
+use Rattle.std.proofs.Common.{rules, IfSome, Bool, false, nat_lt, ap, ◌∙◌, arith, inl}
 use Rattle.std.proofs.Common.{inr}
 use Rattle.std.proofs.lemmas.Bool.{cases_lt}
-use Rattle.std.proofs.lemmas.Bool.Decides.{nat_tests}
 use Rattle.pmp_core.specs.declared.access.Access.{Access}
 use Rattle.pmp_core.specs.declared.access.Mode.{Mode}
 use Rattle.pmp_core.specs.declared.access.Mode.TheVariants.{U}
 use Rattle.pmp_core.specs.declared.access.Kind.{Kind}
-use Rattle.pmp_core.specs.declared.access.Kind.TheVariants.{Fetch, Load, Store}
+use Rattle.pmp_core.specs.declared.access.Kind.TheVariants.{Fetch}
 use Rattle.pmp_core.specs.declared.decision.Cause.TheVariants.{Split}
 use Rattle.pmp_core.specs.declared.decision.Decision.{Decision}
 use Rattle.pmp_core.specs.declared.access.TheConstants.{ADDRESS_LIMIT}
@@ -35,26 +35,18 @@ use Rattle.pmp_map.specs.Tables.{AreTables, IsFound}
 -- ---- causes
 
 pub cause_most : (owner : Option ℕ) → IfSome owner (λ i. i < 256) → cause_number (whole_cause owner) ≤ 512
-cause_most None small = omega arith
-cause_most (Some i) small = omega arith
+cause_most owner small = search (rules, tests)
 
 -- allowed answers are below 1024
 allowed_low : (cause : ℕ) (kind : Kind) (allowed : Bool) → cause ≤ 512
     → nat_lt (cause + 1024 * fault_number kind allowed) 1024 ≡ allowed
-allowed_low cause kind true low = grind (arith, nat_tests)
-allowed_low cause Fetch false low = grind (arith, nat_tests)
-allowed_low cause Load false low = grind (arith, nat_tests)
-allowed_low cause Store false low = grind (arith, nat_tests)
+allowed_low cause kind allowed low = search (rules, tests)
 
 -- the answer in a mode's and a kind's column is low where the kind is allowed
 pub low_where_allowed : (file : RegisterFile) (owner : Option ℕ) (row : List ℕ) → IsRow file owner row → (mode : Mode)
     (kind : Kind) (column : ℕ) → column ≡ column_of mode kind
     → nat_lt (slice_index row column) 1024 ≡ allows (owned_rights file owner mode) kind
-low_where_allowed file owner row is mode kind column here =
-    let allowed = allows (owned_rights file owner mode) kind in
-    ap (λ (n : ℕ). nat_lt (slice_index row n) 1024) here
-    ∙ ap (λ (n : ℕ). nat_lt n 1024) (is.answers mode kind)
-    ∙ allowed_low (cause_number (whole_cause owner)) kind allowed (cause_most owner is.number)
+low_where_allowed file owner row is mode kind column here = search (rules, tests, allowed_low, cause_most)
 
 -- the first answer of a row tells the cause
 pub row_cause : (file : RegisterFile) (owner : Option ℕ) (row : List ℕ) → IsRow file owner row
@@ -66,21 +58,18 @@ row_cause file owner row is =
     omega (arith, first, cause_most owner is.number)
 
 pub owned_by_cause : (owner : Option ℕ) (i : ℕ) → cause_number (whole_cause owner) ≡ i → i < 512 → owner ≡ Some i
-owned_by_cause None i is low = absurd (omega arith)
-owned_by_cause (Some j) i is low = ap Some is
+owned_by_cause owner i is low = search (rules, tests)
 
 pub unowned_by_cause : (owner : Option ℕ) → IfSome owner (λ i. i < 256) → 256 ≤ cause_number (whole_cause owner)
     → owner ≡ None
-unowned_by_cause None small high = refl
-unowned_by_cause (Some i) small high = absurd (omega arith)
+unowned_by_cause owner small high = search (rules, tests)
 
 module _ (file : RegisterFile) (tables : Tables) (are : AreTables file tables) where
   -- ---- places
 
   pub run_found : (byte place : ℕ) → byte < ADDRESS_LIMIT → place + 1 < PLACES → IsFound tables byte place
       → IsPlaceOf are.list byte place
-  run_found byte place small places is_found = place_found file are.list tables.starts are.runs_are are.few
-      are.starts_are tables.runs byte place are.count small places is_found
+  run_found byte place small places is_found = search (rules, tests, place_found)
 
   abbrev pub owner_at : ℕ → Option ℕ
   owner_at k = (map_run are.list k).owner
@@ -90,8 +79,7 @@ module _ (file : RegisterFile) (tables : Tables) (are : AreTables file tables) w
 
   pub computed : (access : Access) (decision : Decision) → IsDecision file access decision
       → decision ≡ decision_of file access
-  computed access decision decided = one_decision file access decision (decision_of file access) decided
-      (decided_by_ranges file access (legal_addresses file are.legal))
+  computed access decision decided = search (rules, tests, one_decision, decided_by_ranges, legal_addresses)
 
   module _ (access : Access) (place : ℕ) (places : place + 1 < PLACES)
       (is_found : IsFound tables access.start place) where

@@ -1,5 +1,6 @@
 -- Ranges of bytes of which two register files say the same, while they are found.
-use Rattle.std.proofs.Common.{◌≡◌, ◌∙◌, sym, refl, ap₂, ℕ, ◌+◌, ◌≤◌, List, [], ◌∷◌, ◌++◌, arith, inl, inr, rules, Option}
+use borrow.Author.Tests.{tests}
+use Rattle.std.proofs.Common.{◌≡◌, ◌∙◌, sym, refl, ap₂, ℕ, ◌+◌, ◌≤◌, List, [], ◌∷◌, ◌++◌, arith, inl, inr, rules}
 use Rattle.std.proofs.lemmas.Bool.{cases_lt}
 use Rattle.pmp_core.specs.declared.access.TheConstants.{ADDRESS_LIMIT}
 use Rattle.pmp_core.specs.RegisterFile.{RegisterFile}
@@ -7,7 +8,7 @@ use Rattle.pmp_core.proofs.Decisions.{least_once}
 use Rattle.pmp_map.specs.declared.compared.Aspect.{Aspect}
 use Rattle.pmp_map.specs.declared.compared.Compared.{Compared}
 use Rattle.pmp_map.specs.declared.compared_run.ComparedRun.{ComparedRun}
-use Rattle.pmp_map.specs.ComparedRuns.{AreComparedRunsFrom, IsCompared, IsComparedRun, compared_by}
+use Rattle.pmp_map.specs.ComparedRuns.{AreComparedRunsFrom, IsCompared, IsComparedRun}
 
 -- two runs of the same fields
 same_fields : (one other : ComparedRun) → one.first ≡ other.first → one.last ≡ other.last → one.both ≡ other.both
@@ -18,11 +19,7 @@ module _ (aspect : Aspect) (old new : RegisterFile) where
   -- the files say one thing of a byte
   pub once : (byte : ℕ) (one other : Compared) → IsCompared aspect old new byte one → IsCompared aspect old new byte other
       → one ≡ other
-  once byte one other here there =
-      here.both_are
-      ∙ ap₂ (λ (i j : Option ℕ). compared_by aspect old i new j) (least_once _ _ _ here.owns_old there.owns_old)
-      (least_once _ _ _ here.owns_new there.owns_new)
-      ∙ sym there.both_are
+  once byte one other here there = search (rules, tests, least_once)
 
   -- the files say of each byte what the run says
   abbrev pub AreComparedTo : ComparedRun → Type 0
@@ -31,10 +28,7 @@ module _ (aspect : Aspect) (old new : RegisterFile) where
   -- a run grows by the bytes behind it of which they say the same
   pub grown : (run next : ComparedRun) → AreComparedTo run → AreComparedTo next → next.first ≡ run.last + 1
       → next.both ≡ run.both → AreComparedTo (record run { last = next.last })
-  grown run next are more follows same byte from to = elim (cases_lt run.last byte) [
-    | inr le ↦ are byte from le
-    | inl past ↦ rw same at (more byte (omega (arith, follows)) to)
-  ]
+  grown run next are more follows same byte from to = search (rules, tests)
 
   -- one run more
   pub one_run_more : (first end : ℕ) (runs : List ComparedRun) (run : ComparedRun)

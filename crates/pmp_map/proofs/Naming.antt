@@ -1,35 +1,18 @@
 -- Numbers name one access.
-use Rattle.std.proofs.Common.{◌≡◌, ℕ, ◌+◌, ◌<◌, ◌≤◌, refl, sym, ap, ◌∙◌, subst, arith}
+use borrow.Author.Tests.{tests}
+use Rattle.std.proofs.Common.{rules, ◌≡◌, ℕ, ◌+◌, ◌<◌, ◌≤◌, ap, ◌∙◌, subst}
 use Rattle.std.proofs.Math.Bridge.{le_prop}
 use Rattle.pmp_core.specs.declared.access.Access.{Access}
 use Rattle.pmp_core.specs.declared.access.Mode.{Mode}
-use Rattle.pmp_core.specs.declared.access.Mode.TheVariants.{M, S, U}
 use Rattle.pmp_core.specs.declared.access.Kind.{Kind}
-use Rattle.pmp_core.specs.declared.access.Kind.TheVariants.{Fetch, Load, Store}
 use Rattle.pmp_core.specs.declared.access.TheConstants.{ADDRESS_LIMIT, MAX_LENGTH}
 use Rattle.pmp_map.specs.Request.{mode_number, kind_number, IsNamed}
 
 pub mode_once : (one other : Mode) → mode_number one ≡ mode_number other → one ≡ other
-mode_once U U e = refl
-mode_once U S e = absurd (omega arith)
-mode_once U M e = absurd (omega arith)
-mode_once S U e = absurd (omega arith)
-mode_once S S e = refl
-mode_once S M e = absurd (omega arith)
-mode_once M U e = absurd (omega arith)
-mode_once M S e = absurd (omega arith)
-mode_once M M e = refl
+mode_once one other e = search (rules, tests)
 
 pub kind_once : (one other : Kind) → kind_number one ≡ kind_number other → one ≡ other
-kind_once Fetch Fetch e = refl
-kind_once Fetch Load e = absurd (omega arith)
-kind_once Fetch Store e = absurd (omega arith)
-kind_once Load Fetch e = absurd (omega arith)
-kind_once Load Load e = refl
-kind_once Load Store e = absurd (omega arith)
-kind_once Store Fetch e = absurd (omega arith)
-kind_once Store Load e = absurd (omega arith)
-kind_once Store Store e = refl
+kind_once one other e = search (rules, tests)
 
 -- a lawful start and length
 abbrev IsLawful : (start length : ℕ) → Type 0
@@ -76,7 +59,4 @@ same_numbers one other mode kind start length =
 
 pub named_once : (one other : Access) (mode kind start length : ℕ) → IsNamed one mode kind start length
     → IsNamed other mode kind start length → one ≡ other
-named_once one other mode kind start length p q = same_numbers one other
-    (mode_once one.mode other.mode (p.mode_is ∙ sym q.mode_is))
-    (kind_once one.kind other.kind (p.kind_is ∙ sym q.kind_is))
-    (p.start_is ∙ sym q.start_is) (p.length_is ∙ sym q.length_is)
+named_once one other mode kind start length p q = search (rules, tests, same_numbers, mode_once, kind_once)
