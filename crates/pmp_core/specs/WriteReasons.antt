@@ -44,7 +44,6 @@ changes_frozen file csr value i = is_frozen file i && is_changed file csr value 
 
 -- the write would change the low bound of a frozen TOR entry, and the entry before isn't frozen (3.7.1.2)
 abbrev pub is_low_end : RegisterFile → Csr → (value i : ℕ) → Bool
-
 is_low_end file (Addr k) value i =
     not (is_frozen file i) && is_address_frozen file i && is_changed file (Addr k) value i
 is_low_end file _ value i = false
@@ -76,7 +75,6 @@ is_too_fine file _ value i = false
 
 -- whether this is a reason for entry i; only five of the reasons can be
 abbrev pub is_entry_reason : WriteReason → RegisterFile → Csr → (value i : ℕ) → Bool
-
 is_entry_reason Frozen file csr value i = changes_frozen file csr value i
 is_entry_reason Tor file csr value i = is_low_end file csr value i
 is_entry_reason Reserved file csr value i = adds_reserved file csr value i
@@ -122,7 +120,6 @@ has_other_bits profile Mseccfgh value = not (value == 0) && (profile.has_smepmp 
 
 -- the write would clear MML or MMWP (Smepmp)
 abbrev pub clears_sticky : MseccfgFields → Csr → (value : ℕ) → Bool
-
 clears_sticky mseccfg Mseccfg value =
     let new = mseccfg_fields value in
     (mseccfg.mml && not new.mml) || (mseccfg.mmwp && not new.mmwp)
@@ -130,7 +127,6 @@ clears_sticky mseccfg _ value = false
 
 -- the write would set RLB while some entry is locked, on a hart with mseccfg (Smepmp)
 abbrev pub sets_bypass : RegisterFile → Csr → (value : ℕ) → Bool
-
 sets_bypass file Mseccfg value =
     file.profile.has_smepmp && (mseccfg_fields value).rlb && not file.mseccfg.rlb && is_any_locked file.entries
 sets_bypass file _ value = false
@@ -144,7 +140,6 @@ is_some_entry_reason reason file csr value =
 abbrev pub is_reason : WriteReason → RegisterFile → Csr → (value : ℕ) → Bool
 is_reason Absent file csr value = is_absent file csr value
 is_reason Bits file csr value = has_other_bits file.profile csr value
-
 is_reason Sticky file csr value = clears_sticky file.mseccfg csr value
 is_reason Bypass file csr value = sets_bypass file csr value
 is_reason reason file csr value = is_some_entry_reason reason file csr value

@@ -1,6 +1,6 @@
 //! The laws of the unit, each the contract of a function that does nothing.
 
-ghost use Rattle.std.specs.Prelude.{◌≡◌, ℕ, ◌<◌, List, Option, length};
+ghost use Rattle.std.specs.Prelude.{◌≡◌, ℕ, ◌<◌, Option, length};
 ghost use Rattle.pmp_core.specs.declared.access.Access.{Access};
 ghost use Rattle.pmp_core.specs.declared.csr.Csr.{Csr};
 ghost use Rattle.pmp_core.specs.declared.decision.Decision.{Decision};

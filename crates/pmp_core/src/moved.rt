@@ -12,7 +12,7 @@ use crate::access::ADDRESS_LIMIT;
 use crate::csr::Csr;
 use crate::hart::Hart;
 use crate::range::ByteRange;
-use crate::register_write::{ENTRIES_PER_CFG, Written};
+use crate::register_write::Written;
 use crate::registers::Registers;
 use crate::saved_registers::SavedRegisters;
 use crate::span::{Span, span_in};
@@ -165,9 +165,7 @@ impl<'a> Registers<'a> {
         }
         moved
     }
-}
 
-impl<'a> Registers<'a> {
     /// Returns the range that the entry matches, if there is such an entry.
     #[inline(always)]
     #[tactic(auto, using(crate::proofs::Matches::range_past))]

@@ -4,7 +4,7 @@ ghost use Rattle.std.specs.Prelude.{◌≡◌, ◌<◌, length};
 ghost use Rattle.pmp_core.specs.Rights.{bits_of, perms_of, is_barred, lockdown_rights, rights, rule_rights};
 ghost use Rattle.pmp_core.specs.Rights.{default_rights, default_rights_by};
 
-use crate::access::{Access, Mode};
+use crate::access::Mode;
 use crate::configuration::Configuration;
 use crate::mseccfg::MseccfgFields;
 use crate::perms::Perms;
