@@ -53,15 +53,9 @@ fn add_file(alloc: Global, harts: &mut Vec<HartName>, file: &str) -> Result<(), 
 {
     if is_script(file) {
         let hart = HartName::read(alloc, file)?;
-        push(harts, hart)?;
+        harts.push(hart).map_err(|_| AllocError)?;
     }
     Ok(())
-}
-
-fn push(harts: &mut Vec<HartName>, hart: HartName) -> Result<(), AllocError>
-    ensures { OnOk result (harts.new.items ≡ harts.old.items ++ hart ∷ []) }
-{
-    Ok(harts.push(hart)?)
 }
 
 /// Whether these are the same harts.
