@@ -114,11 +114,9 @@ fn read_lock(mut operands: Words) -> Result<u8, Flaw>
     if operands.next().is_some() {
         return Err(Refusal::BadLine.part(7));
     }
-    if is_word(word, b"L") {
-        Ok(128)
-    } else {
-        Err(Refusal::BadLine.part(6))
-    }
+    is_word(word, b"L")
+        .then_some(128)
+        .ok_or(Refusal::BadLine.part(6))
 }
 
 fn matching_bits(matching: AddressMatching) -> u8
