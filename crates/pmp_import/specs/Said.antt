@@ -9,9 +9,8 @@ use Rattle.pmp_text.specs.Numbers.{numeral}
 -- only RV32 has the odd pmpcfg registers and mseccfgh
 abbrev pub is_of_rv32 : Csr → Bool
 is_of_rv32 (Cfg number) = number % 2 == 1
-is_of_rv32 (Addr number) = false
-is_of_rv32 Mseccfg = false
 is_of_rv32 Mseccfgh = true
+is_of_rv32 _ = false
 
 -- one reading after another; the first may give nothing
 abbrev pub and_then : {X Y : Type 0} → Option X → (X → Option Y) → Option Y
