@@ -1,6 +1,6 @@
 //! The names of addresses that a text gives.
 
-ghost use Rattle.std.specs.Prelude.{◌≡◌, ◌⊎◌, ◌++◌, ◌∷◌, [], Err, IfErr, IfOk, Ok, OnOk, map};
+ghost use Rattle.std.specs.Prelude.{◌≡◌, ◌⊎◌, Err, IfErr, IfOk, Ok, OnOk, map};
 ghost use Rattle.pmp_text.specs.Lines.{lines};
 ghost use Rattle.pmp_names.specs.AddressNames.{names_from, names_said, no_header};
 ghost use Rattle.pmp_names.specs.NameLists.{AddsName, IsFaultOf, named, no_memory};

@@ -1,7 +1,7 @@
 //! The harts of a folder of scripts, in order.
 
 ghost use Rattle.std.specs.Bool.{Decides};
-ghost use Rattle.std.specs.Prelude.{◌≡◌, ◌⊎◌, ◌++◌, ◌∷◌, [], IfErr, IfOk, OnOk, map, string_bytes, true, false};
+ghost use Rattle.std.specs.Prelude.{◌≡◌, ◌⊎◌, IfErr, IfOk, OnOk, map, string_bytes, true, false};
 ghost use Rattle.pmp_text.specs.declared.refusal.Refusal.TheVariants.{BadFolder, Memory};
 ghost use Rattle.pmp_names.specs.HartNames.{AreHarts, HasNoHarts, is_hart_name, is_script};
 ghost use Rattle.pmp_names.specs.HartLists.{AddsFile, AreNames, names_of};
