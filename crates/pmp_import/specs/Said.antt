@@ -3,7 +3,7 @@ use Rattle.std.specs.Prelude.{ℕ, ◌-◌, ◌%◌, List, length, take, drop, B
 use Rattle.std.specs.Prelude.{None, is_some, codes, bytes_eq, if◌then◌else◌}
 use Rattle.memchr.specs.Find.{first_of, matches}
 use Rattle.pmp_core.specs.declared.csr.Csr.{Csr}
-use Rattle.pmp_core.specs.declared.csr.Csr.TheVariants.{Cfg, Addr, Mseccfg, Mseccfgh}
+use Rattle.pmp_core.specs.declared.csr.Csr.TheVariants.{Cfg, Mseccfgh}
 use Rattle.pmp_text.specs.Numbers.{numeral}
 
 -- only RV32 has the odd pmpcfg registers and mseccfgh

@@ -1,6 +1,6 @@
 -- What the lines of a script add: events and publications, a head, expectations, and names of moments.
 use Rattle.std.specs.Prelude.{ℕ, ◌+◌, List, [], ◌∷◌, ◌++◌, map, filter_map, find, Bool, true, false, Option, Some, None}
-use Rattle.std.specs.Prelude.{Result, Ok, Err, is_some, option_map}
+use Rattle.std.specs.Prelude.{Result, Ok, is_some, option_map}
 use Rattle.std.specs.List.{slice_split}
 use Rattle.pmp_core.specs.declared.event.Event.{Event}
 use Rattle.pmp_text.specs.declared.expectation.Expectation.{Expectation}
