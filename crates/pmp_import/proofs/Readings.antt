@@ -48,13 +48,6 @@ module _ (given : Given) where
         ap (imported_from given old) (append_assoc lines others more) ∙ one.goes_on (others ++ more)
         ∙ ap (with_front one.text) (stops more))
 
--- a fault of the first lines is one of all
-pub stops_earlier : (given : Given) (walk : Walk) (lines others : List (List ℕ)) (fault : ImportFault)
-    → StopsAt given walk lines fault → StopsAt given walk (lines ++ others) fault
-stops_earlier given walk lines others fault (inl memory) = inl memory
-stops_earlier given walk lines others fault (inr stops) =
-    inr (λ more. ap (imported_from given walk) (append_assoc lines others more) ∙ stops (others ++ more))
-
 -- ---- the first reading
 
 module _ (format : Format) where

@@ -84,15 +84,12 @@ kept_lines word is_rv32 csr value =
 
 abbrev pub is_write : How → Bool
 is_write Write = true
-is_write Read = false
 is_write Commit = true
-is_write Show = false
+is_write _ = false
 
 abbrev pub is_read : How → Bool
-is_read Write = false
 is_read Read = true
-is_read Commit = false
-is_read Show = false
+is_read _ = false
 
 -- what is written
 abbrev pub write_lines : Told → List ℕ
@@ -145,8 +142,7 @@ abbrev pub said_text : Given → Walk → Said → List ℕ
 said_text given walk (Register told) =
     if is_of_hart given walk told then told_text given walk told else publish_if (is_open walk)
 said_text given walk Reset = reset_text walk
-said_text given walk (Hart hart) = publish_if (is_open walk)
-said_text given walk Nothing = publish_if (is_open walk)
+said_text given walk _ = publish_if (is_open walk)
 
 -- after a line that gives no event
 abbrev pub behind_line : Walk → Walk

@@ -3,15 +3,14 @@ use Rattle.std.specs.Prelude.{ℕ, ◌-◌, ◌%◌, List, length, take, drop, B
 use Rattle.std.specs.Prelude.{None, is_some, codes, bytes_eq, if◌then◌else◌}
 use Rattle.memchr.specs.Find.{first_of, matches}
 use Rattle.pmp_core.specs.declared.csr.Csr.{Csr}
-use Rattle.pmp_core.specs.declared.csr.Csr.TheVariants.{Cfg, Addr, Mseccfg, Mseccfgh}
+use Rattle.pmp_core.specs.declared.csr.Csr.TheVariants.{Cfg, Mseccfgh}
 use Rattle.pmp_text.specs.Numbers.{numeral}
 
 -- only RV32 has the odd pmpcfg registers and mseccfgh
 abbrev pub is_of_rv32 : Csr → Bool
 is_of_rv32 (Cfg number) = number % 2 == 1
-is_of_rv32 (Addr number) = false
-is_of_rv32 Mseccfg = false
 is_of_rv32 Mseccfgh = true
+is_of_rv32 _ = false
 
 -- one reading after another; the first may give nothing
 abbrev pub and_then : {X Y : Type 0} → Option X → (X → Option Y) → Option Y

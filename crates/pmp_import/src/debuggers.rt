@@ -59,10 +59,7 @@ fn read_csr(is_rv32: bool, name: &[u8]) -> Option<Csr>
     if !names_register(name) {
         return None;
     }
-    match read_register(is_rv32, name) {
-        Ok(register) => Some(register),
-        Err(_) => None,
-    }
+    read_register(is_rv32, name).ok()
 }
 
 /// Returns a register that is shown with this value, for a hart whose XLEN may be known to be 32.
@@ -168,11 +165,7 @@ fn behind_prompt(line: &[u8]) -> Option<&[u8]>
         (λ rest. behind_prompts (words line.now) ≡ behind_prompts (words rest.now)) }
 {
     let mut words = Words::new(line);
-    if is_prompt(words.next()?) {
-        Some(words.rest())
-    } else {
-        None
-    }
+    is_prompt(words.next()?).then_some(words.rest())
 }
 
 /// Returns the text after a line's prompts.
@@ -190,10 +183,8 @@ fn behind_prompts(line: &[u8]) -> &[u8]
 fn is_typed(line: &[u8]) -> bool
     ensures { result ≡ is_typed (words line.now) }
 {
-    match Words::new(line).next() {
-        Some(word) => is_prompt(word) || word == b"Invalid".as_slice(),
-        None => false,
-    }
+    let first = Words::new(line).next();
+    first.is_some_and(|word| is_prompt(word) || word == b"Invalid".as_slice())
 }
 
 /// Returns the heading of a thread, which is a hart, or nothing.

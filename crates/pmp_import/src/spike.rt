@@ -19,10 +19,8 @@ pub fn read_spike(line: &[u8]) -> Result<Said, Refusal>
     if !names_register(line) || is_listing(Words::new(line)) {
         return Ok(Said::Nothing);
     }
-    match read_commit(Words::new(line)) {
-        Some(told) => Ok(Said::Register(told)),
-        None => Err(Refusal::BadEvent),
-    }
+    let told = read_commit(Words::new(line)).ok_or(Refusal::BadEvent)?;
+    Ok(Said::Register(told))
 }
 
 /// Whether a line is one of those that the option `-l` adds.
@@ -54,10 +52,7 @@ fn read_commit(mut line: Words) -> Option<Told>
 fn is_mode(word: &[u8]) -> bool
     ensures { result ≡ is_mode word.now }
 {
-    word == b"0".as_slice()
-        || word == b"1".as_slice()
-        || word == b"2".as_slice()
-        || word == b"3".as_slice()
+    matches!(word, b"0" | b"1" | b"2" | b"3")
 }
 
 fn is_code(word: &[u8]) -> bool
@@ -172,8 +167,5 @@ fn csr_numbered(is_rv32: bool, number: u64) -> Option<Csr>
     requires { number < 2 ^ 16 }
     ensures { result ≡ csr_numbered is_rv32 number }
 {
-    match Csr::on(is_rv32, number as u16) {
-        Ok(register) => Some(register),
-        Err(_) => None,
-    }
+    Csr::on(is_rv32, number as u16).ok()
 }

@@ -1,6 +1,5 @@
 -- Names of addresses as the program keeps them.
-use Rattle.std.specs.Prelude.{◌≡◌, ℕ, List, [], ◌∷◌, ◌++◌, map, Option, None, option_map, Result, Ok, Err}
-use Rattle.std.proofs.Common.{Bor}
+use Rattle.std.specs.Prelude.{◌≡◌, ℕ, List, [], ◌∷◌, ◌++◌, map, Option, None, Result, Ok, Err}
 use Rattle.pmp_text.specs.declared.refusal.Refusal.TheVariants.{BadRow, Memory}
 use Rattle.pmp_names.specs.declared.address_name.AddressName.{AddressName}
 use Rattle.pmp_names.specs.declared.address_names.NamesFault.{NamesFault}
@@ -9,10 +8,6 @@ use Rattle.pmp_names.specs.AddressNames.{Fault, Named, name_said}
 -- one of them, in plain values
 abbrev pub named : AddressName → Named
 named one = record { first = one.first; last = one.last; name = one.name.now }
-
--- names, where they are given
-abbrev pub plain_names : Option (Bor (List AddressName)) → Option (List Named)
-plain_names names = option_map (λ names. map named names.now) names
 
 abbrev pub said_so : Result AddressName (Option ℕ) → Result Named Fault
 said_so (Ok one) = Ok (named one)

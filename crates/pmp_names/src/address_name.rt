@@ -30,10 +30,7 @@ fn is_name_byte(byte: u8) -> bool
 fn begins_as_name(name: &[u8]) -> bool
     ensures { result ≡ begins_as_name name.now }
 {
-    match name {
-        [first, ..] => !first.is_ascii_digit(),
-        [] => false,
-    }
+    name.first().is_some_and(|first| !first.is_ascii_digit())
 }
 
 fn are_name_bytes(name: &[u8]) -> bool
@@ -59,10 +56,8 @@ fn first_at(line: &[u8], separator: u8) -> Option<usize>
 pub fn split_once(line: &[u8], separator: u8) -> Option<(&[u8], &[u8])>
     ensures { option_map (λ parts. (parts.0.now, parts.1.now)) result ≡ split_once separator line.now }
 {
-    match first_at(line, separator) {
-        Some(end) => Some((&line[..end], &line[end + 1..])),
-        None => None,
-    }
+    let end = first_at(line, separator)?;
+    Some((&line[..end], &line[end + 1..]))
 }
 
 /// Returns the text before the first comma, and the text after it.

@@ -1,6 +1,6 @@
 //! The names of addresses that a text gives.
 
-ghost use Rattle.std.specs.Prelude.{◌≡◌, ◌⊎◌, ◌++◌, ◌∷◌, [], Err, IfErr, IfOk, Ok, OnOk, map};
+ghost use Rattle.std.specs.Prelude.{◌≡◌, ◌⊎◌, Err, IfErr, IfOk, Ok, OnOk, map};
 ghost use Rattle.pmp_text.specs.Lines.{lines};
 ghost use Rattle.pmp_names.specs.AddressNames.{names_from, names_said, no_header};
 ghost use Rattle.pmp_names.specs.NameLists.{AddsName, IsFaultOf, named, no_memory};
@@ -72,20 +72,11 @@ fn add<'a>(names: &mut Vec<AddressName<'a>>, line: &'a [u8], row: u64) -> Result
     ensures err { IfErr result (λ fault. (fault ≡ no_memory) ⊎ IsFaultOf line.now row fault) }
 {
     match AddressName::read(line) {
-        Ok(name) => push(names, name)?,
-        Err(field) => {
-            return Err(NamesFault {
-                refusal: Refusal::BadRow,
-                row,
-                field,
-            });
-        }
+        Ok(name) => Ok(names.push(name).map_err(|_| AllocError)?),
+        Err(field) => Err(NamesFault {
+            refusal: Refusal::BadRow,
+            row,
+            field,
+        }),
     }
-    Ok(())
-}
-
-fn push<'a>(names: &mut Vec<AddressName<'a>>, name: AddressName<'a>) -> Result<(), AllocError>
-    ensures { OnOk result (names.new.items ≡ names.old.items ++ name.entry ∷ []) }
-{
-    Ok(names.push(name)?)
 }

@@ -1,7 +1,7 @@
 //! The harts of a folder of scripts, in order.
 
 ghost use Rattle.std.specs.Bool.{Decides};
-ghost use Rattle.std.specs.Prelude.{◌≡◌, ◌⊎◌, ◌++◌, ◌∷◌, [], IfErr, IfOk, OnOk, map, string_bytes, true, false};
+ghost use Rattle.std.specs.Prelude.{◌≡◌, ◌⊎◌, IfErr, IfOk, OnOk, map, string_bytes, true, false};
 ghost use Rattle.pmp_text.specs.declared.refusal.Refusal.TheVariants.{BadFolder, Memory};
 ghost use Rattle.pmp_names.specs.HartNames.{AreHarts, HasNoHarts, is_hart_name, is_script};
 ghost use Rattle.pmp_names.specs.HartLists.{AddsFile, AreNames, names_of};
@@ -53,15 +53,9 @@ fn add_file(alloc: Global, harts: &mut Vec<HartName>, file: &str) -> Result<(), 
 {
     if is_script(file) {
         let hart = HartName::read(alloc, file)?;
-        push(harts, hart)?;
+        harts.push(hart).map_err(|_| AllocError)?;
     }
     Ok(())
-}
-
-fn push(harts: &mut Vec<HartName>, hart: HartName) -> Result<(), AllocError>
-    ensures { OnOk result (harts.new.items ≡ harts.old.items ++ hart ∷ []) }
-{
-    Ok(harts.push(hart)?)
 }
 
 /// Whether these are the same harts.

@@ -83,10 +83,7 @@ pub fn append_met(
 pub fn first_field(row: &[u8], separator: u8) -> &[u8]
     ensures { result.now ≡ before_first (is_separator separator) row.now }
 {
-    match split_once(row, separator) {
-        Some((field, _)) => field,
-        None => row,
-    }
+    split_once(row, separator).map_or(row, |(field, _)| field)
 }
 
 /// Returns the field of a row with this number.

@@ -47,7 +47,7 @@ nine_at _ _ _ _ = None
 
 pub by_nine_places : (fields : List (List ℕ)) → nine_fields fields
     ≡ nine_at (field_at fields 0) (seven_from fields 1) (field_at fields 8) (field_at fields 9)
-unfolding nine_fields field_at
+unfolding nine_fields seven_fields field_at
 by_nine_places [] = refl
 by_nine_places (a ∷ []) = refl
 by_nine_places (a ∷ b ∷ []) = refl

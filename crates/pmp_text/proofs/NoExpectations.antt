@@ -12,26 +12,20 @@ use Rattle.pmp_text.specs.declared.script.version.Version.TheVariants.{Sized}
 use Rattle.pmp_core.specs.declared.csr.Csr.{Csr}
 use Rattle.pmp_core.specs.declared.event.Event.TheVariants.{Write, Reset}
 use Rattle.pmp_text.specs.Statements.{assignment, statement_of, without_operands, write_statement}
-use Rattle.pmp_text.specs.Flaws.{part}
+use Rattle.pmp_text.specs.Flaws.{and_then, part}
 use Rattle.pmp_text.specs.ScriptLines.{Line, said_by}
 use Rattle.pmp_text.specs.ScriptEvents.{expected_by, expected_from}
 
 abbrev ExpectsNone : Result Statement Flaw → Type 0
 ExpectsNone (Ok (statement.Expect register value)) = ⊥
-ExpectsNone (Ok (statement.Event event)) = ⊤
-ExpectsNone (Ok (statement.Publish name)) = ⊤
-ExpectsNone (Ok (statement.Mark name)) = ⊤
-ExpectsNone (Ok (statement.Head says)) = ⊤
-ExpectsNone (Err kind) = ⊤
+ExpectsNone _ = ⊤
 
 by_word : (is : Bool) (a b : Result Statement Flaw) → ExpectsNone a → ExpectsNone b → ExpectsNone (cond is a b)
 by_word true a b x y = x
 by_word false a b x y = y
 
-by_assignment : (r : Result (Csr × ℕ) Flaw) → ExpectsNone (elim r [
-  | Ok (csr, value) ↦ Ok (statement.Event (Write csr value))
-  | Err kind ↦ Err kind
-])
+by_assignment : (r : Result (Csr × ℕ) Flaw)
+    → ExpectsNone (and_then r (λ (csr, value). Ok (statement.Event (Write csr value))))
 by_assignment (Ok (csr, value)) = tt
 by_assignment (Err kind) = tt
 

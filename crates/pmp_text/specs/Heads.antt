@@ -84,11 +84,7 @@ profile_said lines = fold (λ said line. with_statement said line.statement) uns
 -- whether XLEN is 32 after a line with this
 abbrev pub rv32_with : HeadStatement → (before : Bool) → Bool
 rv32_with (Hart (Xlen is_rv32)) before = is_rv32
-rv32_with (Hart (Entries n)) before = before
-rv32_with (Hart (Grain n)) before = before
-rv32_with (Hart (Bits n)) before = before
-rv32_with (Hart (Smepmp has)) before = before
-rv32_with (Set register value) before = before
+rv32_with _ before = before
 
 abbrev pub with_bits : Profile → Profile
 with_bits said =

@@ -1,7 +1,5 @@
 -- What a call returns that may run out of memory.
 use Rattle.std.specs.Prelude.{◌≡◌, ◌⊎◌, Result, Ok, Err}
-use Rattle.csv.specs.declared.error.ErrorKind.{ErrorKind}
-use Rattle.csv.specs.declared.error.ErrorKind.TheVariants as csv_error
 use Rattle.pmp_text.specs.declared.refusal.Refusal.TheVariants.{Input, Memory}
 use Rattle.pmp_text.specs.declared.script.ScriptFault.{ScriptFault}
 use Rattle.pmp_text.specs.declared.trace.TraceFault.{TraceFault}
@@ -23,11 +21,6 @@ no_memory_for_rows = at_row 0 (as_whole Memory)
 -- the crate `csv` reports a failed input
 abbrev pub no_input_for_rows : TraceFault
 no_input_for_rows = at_row 0 (as_whole Input)
-
--- the fault of a trace for an error of the crate `csv`: memory ran out, or else the input failed
-abbrev pub csv_fault : ErrorKind → TraceFault
-csv_fault csv_error.OutOfMemory = no_memory_for_rows
-csv_fault _ = no_input_for_rows
 
 -- the result, seen by view, is the meaning, or memory ran out, or the input failed
 abbrev pub GivesRows : {X Y : Type 0} → (X → Y) → Result X TraceFault → Result Y TraceFault → Type 0

@@ -110,19 +110,9 @@ pub record NineFields : Type 0 where
   pub comment : List ℕ
 
 unfoldable pub nine_fields : List (List ℕ) → Option NineFields
-nine_fields (name ∷ from ∷ to ∷ modes ∷ kind ∷ first ∷ last ∷ demand ∷ comment ∷ []) = Some (record {
-  name = name;
-  words = record {
-    from = from;
-    to = to;
-    modes = modes;
-    kind = kind;
-    first = first;
-    last = last;
-    demand = demand;
-  };
-  comment = comment;
-})
+nine_fields (name ∷ from ∷ to ∷ modes ∷ kind ∷ first ∷ last ∷ demand ∷ comment ∷ []) =
+    option_map (λ words. record { name = name; words = words; comment = comment })
+    (seven_fields (from ∷ to ∷ modes ∷ kind ∷ first ∷ last ∷ demand ∷ []))
 nine_fields _ = None
 
 -- the first record names the fields

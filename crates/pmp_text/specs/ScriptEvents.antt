@@ -1,6 +1,6 @@
 -- What the lines of a script add: events and publications, a head, expectations, and names of moments.
 use Rattle.std.specs.Prelude.{ℕ, ◌+◌, List, [], ◌∷◌, ◌++◌, map, filter_map, find, Bool, true, false, Option, Some, None}
-use Rattle.std.specs.Prelude.{Result, Ok, Err, is_some, option_map}
+use Rattle.std.specs.Prelude.{Result, Ok, is_some, option_map}
 use Rattle.std.specs.List.{slice_split}
 use Rattle.pmp_core.specs.declared.event.Event.{Event}
 use Rattle.pmp_text.specs.declared.expectation.Expectation.{Expectation}
@@ -17,11 +17,7 @@ use Rattle.pmp_text.specs.declared.script.statement.Statement.TheVariants as sta
 -- the event that a line adds, if any
 abbrev pub event_in : Result Statement Flaw → Option Event
 event_in (Ok (statement.Event event)) = Some event
-event_in (Ok (statement.Publish name)) = None
-event_in (Ok (statement.Mark name)) = None
-event_in (Ok (statement.Head says)) = None
-event_in (Ok (statement.Expect register value)) = None
-event_in (Err flaw) = None
+event_in _ = None
 
 abbrev pub event_of : Version → Line → Option Event
 event_of version line = event_in (said_by version line)
@@ -31,12 +27,8 @@ abbrev pub event_line_of : Version → Line → Option ℕ
 event_line_of version line = option_map (λ _. line.number) (event_of version line)
 
 abbrev pub publishes : Result Statement Flaw → Bool
-publishes (Ok (statement.Event event)) = false
 publishes (Ok (statement.Publish name)) = true
-publishes (Ok (statement.Mark name)) = false
-publishes (Ok (statement.Head says)) = false
-publishes (Ok (statement.Expect register value)) = false
-publishes (Err flaw) = false
+publishes _ = false
 
 abbrev pub is_publish : Version → Line → Bool
 is_publish version line = publishes (said_by version line)
@@ -67,12 +59,8 @@ first_unpublished version lines =
     (find (λ line. is_some (event_of version line)) (last_piece (slice_split (is_publish version) lines)))
 
 abbrev pub head_line_in : (number : ℕ) → Result Statement Flaw → Option HeadLine
-head_line_in number (Ok (statement.Event event)) = None
-head_line_in number (Ok (statement.Publish name)) = None
-head_line_in number (Ok (statement.Mark name)) = None
 head_line_in number (Ok (statement.Head says)) = Some (record { line = number; statement = says })
-head_line_in number (Ok (statement.Expect register value)) = None
-head_line_in number (Err flaw) = None
+head_line_in number _ = None
 
 -- the lines of the head
 abbrev pub head_lines : Version → List Line → List HeadLine
@@ -82,12 +70,9 @@ head_lines version lines = filter_map (λ line. head_line_in line.number (said_b
 abbrev pub expected_by : (events number : ℕ) → Result Statement Flaw → (later : ℕ → List Expectation)
     → List Expectation
 expected_by events number (Ok (statement.Event event)) later = later (events + 1)
-expected_by events number (Ok (statement.Publish name)) later = later events
-expected_by events number (Ok (statement.Mark name)) later = later events
-expected_by events number (Ok (statement.Head says)) later = later events
 expected_by events number (Ok (statement.Expect register value)) later =
     record { register = register; value = value; line = number; events = events } ∷ later events
-expected_by events number (Err flaw) later = later events
+expected_by events number _ later = later events
 
 abbrev pub expected_from : Version → (events : ℕ) → List Line → List Expectation
 expected_from version events [] = []
@@ -101,12 +86,9 @@ mark_at (Some name) done = record { name = name; done = done } ∷ []
 
 -- the moments that these lines name, after `done` publications
 abbrev pub marks_by : (done : ℕ) → Result Statement Flaw → (later : ℕ → List Mark) → List Mark
-marks_by done (Ok (statement.Event event)) later = later done
 marks_by done (Ok (statement.Publish name)) later = mark_at name (done + 1) ++ later (done + 1)
 marks_by done (Ok (statement.Mark name)) later = mark_at (Some name) done ++ later done
-marks_by done (Ok (statement.Head says)) later = later done
-marks_by done (Ok (statement.Expect register value)) later = later done
-marks_by done (Err flaw) later = later done
+marks_by done _ later = later done
 
 abbrev pub marks_from : Version → (done : ℕ) → List Line → List Mark
 marks_from version done [] = []

@@ -24,10 +24,7 @@ use Rattle.pmp_text.specs.declared.script.statement.Statement.TheVariants as sta
 abbrev pub counted : Result Statement Flaw → ℕ → ℕ
 counted (Ok (statement.Event event)) count = count + 1
 counted (Ok (statement.Publish name)) count = 0
-counted (Ok (statement.Mark name)) count = count
-counted (Ok (statement.Head says)) count = count
-counted (Ok (statement.Expect register value)) count = count
-counted (Err flaw) count = count
+counted _ count = count
 
 -- the number of event lines since the last `publish`, from the nearest line back
 abbrev pub open_events : Version → List Line → ℕ
@@ -45,47 +42,32 @@ all_publications version before = length (filter (is_publish version) before)
 abbrev pub ends_head : Result Statement Flaw → Bool
 ends_head (Ok (statement.Event event)) = true
 ends_head (Ok (statement.Publish name)) = true
-ends_head (Ok (statement.Mark name)) = false
-ends_head (Ok (statement.Head says)) = false
-ends_head (Ok (statement.Expect register value)) = false
-ends_head (Err flaw) = false
+ends_head _ = false
 
 abbrev pub is_over : Version → List Line → Bool
 is_over version before = list_any (λ line. ends_head (said_by version line)) before
 
 -- a line gives the same field of the hart, or sets the same register
 abbrev pub says_same : HeadStatement → Result Statement Flaw → Bool
-says_same says (Ok (statement.Event event)) = false
-says_same says (Ok (statement.Publish name)) = false
-says_same says (Ok (statement.Mark name)) = false
 says_same says (Ok (statement.Head other)) = is_same says other
-says_same says (Ok (statement.Expect register value)) = false
-says_same says (Err flaw) = false
+says_same says _ = false
 
 abbrev pub is_said : Version → List Line → HeadStatement → Bool
 is_said version before says = list_any (λ line. says_same says (said_by version line)) before
 
 -- a line gives a moment this name
 abbrev pub names_same : Name → Result Statement Flaw → Bool
-names_same name (Ok (statement.Event event)) = false
-names_same name (Ok (statement.Publish None)) = false
 names_same name (Ok (statement.Publish (Some other))) = same_name name other
 names_same name (Ok (statement.Mark other)) = same_name name other
-names_same name (Ok (statement.Head says)) = false
-names_same name (Ok (statement.Expect register value)) = false
-names_same name (Err flaw) = false
+names_same name _ = false
 
 abbrev pub is_marked : Version → List Line → Name → Bool
 is_marked version before name = list_any (λ line. names_same name (said_by version line)) before
 
 -- whether XLEN is 32 by the lines before, from the nearest back
 abbrev pub rv32_behind : Result Statement Flaw → Bool → Bool
-rv32_behind (Ok (statement.Event event)) before = before
-rv32_behind (Ok (statement.Publish name)) before = before
-rv32_behind (Ok (statement.Mark name)) before = before
 rv32_behind (Ok (statement.Head says)) before = rv32_with says before
-rv32_behind (Ok (statement.Expect register value)) before = before
-rv32_behind (Err flaw) before = before
+rv32_behind _ before = before
 
 abbrev pub is_rv32 : Version → List Line → Bool
 is_rv32 version [] = false

@@ -18,7 +18,7 @@ use Rattle.pmp_text.specs.declared.script.version.Version.TheVariants.{Sized, He
 use Rattle.pmp_text.specs.Numbers.{word_number}
 use Rattle.pmp_text.specs.Names.{register_named}
 use Rattle.pmp_text.specs.Marks.{name_said}
-use Rattle.pmp_text.specs.Flaws.{part, as_whole}
+use Rattle.pmp_text.specs.Flaws.{and_then, part, as_whole}
 
 -- ---- a register and a value
 
@@ -41,28 +41,18 @@ has_rv32 Headed = true
 
 -- a name and a value, and nothing else
 abbrev pub assignment : Version → List (List ℕ) → Result (Csr × ℕ) Flaw
-assignment version operands = elim (two_of operands) [
-  | Ok (name, value) ↦ assigned (register_named (has_rv32 version) name) (word_number value)
-  | Err flaw ↦ Err flaw
-]
+assignment version operands = and_then (two_of operands) (λ (name, value).
+    assigned (register_named (has_rv32 version) name) (word_number value))
 
 abbrev pub write_statement : Version → List (List ℕ) → Result Statement Flaw
-write_statement version operands = elim (assignment version operands) [
-  | Ok (csr, value) ↦ Ok (statement.Event (Write csr value))
-  | Err flaw ↦ Err flaw
-]
+write_statement version operands =
+    and_then (assignment version operands) (λ (csr, value). Ok (statement.Event (Write csr value)))
 
 abbrev pub set_statement : List (List ℕ) → Result Statement Flaw
-set_statement operands = elim (assignment Headed operands) [
-  | Ok (csr, value) ↦ Ok (statement.Head (Set csr value))
-  | Err flaw ↦ Err flaw
-]
+set_statement operands = and_then (assignment Headed operands) (λ (csr, value). Ok (statement.Head (Set csr value)))
 
 abbrev pub expect_statement : List (List ℕ) → Result Statement Flaw
-expect_statement operands = elim (assignment Headed operands) [
-  | Ok (csr, value) ↦ Ok (statement.Expect csr value)
-  | Err flaw ↦ Err flaw
-]
+expect_statement operands = and_then (assignment Headed operands) (λ (csr, value). Ok (statement.Expect csr value))
 
 -- ---- the hart
 
@@ -113,12 +103,9 @@ field_of name value = elim (field_named name value) [
   | None ↦ Err (part 1 BadLine)
 ]
 
-abbrev pub hart_said : Result HartField Flaw → Result Statement Flaw
-hart_said (Ok field) = Ok (statement.Head (Hart field))
-hart_said (Err flaw) = Err flaw
-
 abbrev pub hart_statement : List (List ℕ) → Result Statement Flaw
-hart_statement operands = elim (two_of operands) [ Ok (name, value) ↦ hart_said (field_of name value) | Err flaw ↦ Err flaw ]
+hart_statement operands = and_then (two_of operands) (λ (name, value). and_then (field_of name value) (λ field.
+    Ok (statement.Head (Hart field))))
 
 -- ---- all lines
 

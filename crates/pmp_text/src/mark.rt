@@ -5,8 +5,6 @@ ghost use Rattle.std.specs.List.{list_all};
 ghost use Rattle.pmp_text.specs.Marks.{begins_with_letter, is_letter, is_name, is_name_byte, is_taken, name_bytes};
 ghost use Rattle.pmp_text.specs.Marks.{name_said, same_name, zero_place};
 
-use crate::words::is_word;
-
 /// The greatest length of a name in bytes.
 pub const NAME_BYTES: usize = 64;
 
@@ -50,19 +48,13 @@ fn is_name_byte(byte: u8) -> bool
 fn is_taken(word: &[u8]) -> bool
     ensures { result ≡ is_taken word.now }
 {
-    is_word(word, b"last")
-        || is_word(word, b"mml")
-        || is_word(word, b"mmwp")
-        || is_word(word, b"rlb")
+    matches!(word, b"last" | b"mml" | b"mmwp" | b"rlb")
 }
 
 fn begins_with_letter(word: &[u8]) -> bool
     ensures { result ≡ begins_with_letter word.now }
 {
-    match word {
-        [first, ..] => is_letter(*first),
-        [] => false,
-    }
+    word.first().is_some_and(|first| is_letter(*first))
 }
 
 fn are_name_bytes(word: &[u8]) -> bool

@@ -1,8 +1,8 @@
 //! The moments of a script, as words name them.
 
 ghost use Rattle.std.specs.Prelude.{◌≡◌, ◌≤◌};
-ghost use Rattle.pmp_text.specs.Moments.{after_said, asked_between, done_at, is_backward, label_place, label_said};
-ghost use Rattle.pmp_text.specs.Moments.{moment_named, moment_said, place_of, to_said, unasked, waives, when_place};
+ghost use Rattle.pmp_text.specs.Moments.{after_said, asked_between, done_at, label_place, label_said};
+ghost use Rattle.pmp_text.specs.Moments.{moment_named, moment_said, place_of, to_said, waives, when_place};
 ghost use Rattle.pmp_text.specs.Moments.{when_said};
 
 use crate::mark::{Mark, Name};
@@ -107,22 +107,6 @@ fn done_at(marks: &[Mark], name: &Name) -> Option<u64>
     Some(mark.done)
 }
 
-/// Returns what a row asks about if its moments don't come.
-fn unasked(publications: u64, is_waived: bool) -> Asked
-    ensures { result ≡ unasked publications is_waived }
-{
-    let coming = if is_waived {
-        Coming::Waived
-    } else {
-        Coming::Unmet
-    };
-    Asked {
-        from: publications,
-        to: publications,
-        coming,
-    }
-}
-
 impl Moment {
     /// Returns how many publications are done there, if it comes.
     fn place(self) -> Option<u64>
@@ -138,20 +122,7 @@ impl Moment {
     fn waives(self) -> bool
         ensures { result ≡ waives self }
     {
-        match self {
-            Moment::Numbered(_) => false,
-            Moment::Named(_, is_waived) => is_waived,
-        }
-    }
-
-    /// Whether both are numbers, and the other is below this one.
-    fn is_above(self, other: Moment) -> bool
-        ensures { result ≡ is_backward self other }
-    {
-        match (self, other) {
-            (Moment::Numbered(from), Moment::Numbered(to)) => to < from,
-            _ => false,
-        }
+        matches!(self, Moment::Named(_, true))
     }
 }
 
@@ -273,11 +244,10 @@ impl Moments<'_> {
         if word.is_empty() {
             return Ok(Moment::Named(Some(self.publications), false));
         }
-        let to = self.read(word)?;
-        if from.is_above(to) {
-            return Err(Refusal::BadRow);
+        match (from, self.read(word)?) {
+            (Moment::Numbered(from), Moment::Numbered(to)) if to < from => Err(Refusal::BadRow),
+            (_, to) => Ok(to),
         }
-        Ok(to)
     }
 
     /// Returns what a row from one moment to the other asks about.
@@ -286,13 +256,22 @@ impl Moments<'_> {
         ensures forward { result.from ≤ self.now.publications → result.from ≤ result.to }
     {
         let is_waived = from.waives() || to.waives();
+        let missed = if is_waived {
+            Coming::Waived
+        } else {
+            Coming::Unmet
+        };
         match (from.place(), to.place()) {
             (Some(from), Some(to)) if from <= to || from > self.publications => Asked {
                 from,
                 to,
                 coming: Coming::Met,
             },
-            _ => unasked(self.publications, is_waived),
+            _ => Asked {
+                from: self.publications,
+                to: self.publications,
+                coming: missed,
+            },
         }
     }
 }

@@ -33,6 +33,7 @@ pub use lines::split_first_line;
 use pmp_core::{BATCH_EVENTS, ENTRIES, Event, RegFile, Size};
 pub use reader::{MAX_EVENTS, MAX_HEADED_SCRIPT, MAX_SCRIPT, is_headed, read_script};
 pub use shorthand::read_rights;
+pub(crate) use start::kept_value;
 use std::alloc::AllocError;
 use std::marker::Model;
 pub use words::Words;

@@ -1,8 +1,7 @@
 //! Traces: the accesses that a text lists, and why a text, of these or of a policy, lists none.
 
 ghost use Rattle.std.specs.Prelude.{◌≡◌};
-ghost use Rattle.csv.specs.Reading.{error_kind};
-ghost use Rattle.pmp_text.specs.Outcomes.{no_memory_for_rows, csv_fault};
+ghost use Rattle.pmp_text.specs.Outcomes.{no_memory_for_rows};
 
 mod plain;
 mod reader;
@@ -52,16 +51,5 @@ impl From<AllocError> for TraceFault {
 
     fn from(_error: AllocError) -> TraceFault {
         Refusal::Memory.whole().at_row(0)
-    }
-}
-
-impl From<csv::Error> for TraceFault {
-    ghost from_gives = { λ error fault. fault ≡ csv_fault (error_kind error) };
-
-    fn from(error: csv::Error) -> TraceFault {
-        match error.kind() {
-            csv::ErrorKind::OutOfMemory => Refusal::Memory.whole().at_row(0),
-            _ => Refusal::Input.whole().at_row(0),
-        }
     }
 }

@@ -8,7 +8,7 @@ use Rattle.csv.specs.Records.{field_at}
 use Rattle.pmp_text.specs.declared.policy.row_fields.LabeledWords.{LabeledWords}
 use Rattle.pmp_text.specs.declared.policy.row_fields.Words.{Words}
 use Rattle.pmp_text.specs.declared.trace.row_fields.Words as trace
-use Rattle.pmp_text.specs.Policies.{NineFields, SevenFields}
+use Rattle.pmp_text.specs.Policies.{NineFields, SevenFields, seven_fields}
 use Rattle.pmp_text.specs.Traces.{FiveFields}
 
 -- a line as the definitions see it
@@ -50,15 +50,8 @@ abbrev pub seen_nine : LabeledWords → NineFields
 seen_nine all = record { name = all.name.now; words = seen_seven all.words; comment = all.comment.now }
 
 abbrev pub seven_at : (from to modes kind first last demand : Option (List ℕ)) → Option SevenFields
-seven_at (Some from) (Some to) (Some modes) (Some kind) (Some first) (Some last) (Some demand) = Some (record {
-  from = from;
-  to = to;
-  modes = modes;
-  kind = kind;
-  first = first;
-  last = last;
-  demand = demand;
-})
+seven_at (Some from) (Some to) (Some modes) (Some kind) (Some first) (Some last) (Some demand) =
+    seven_fields (from ∷ to ∷ modes ∷ kind ∷ first ∷ last ∷ demand ∷ [])
 seven_at _ _ _ _ _ _ _ = None
 
 -- seven fields of a record, from this index on

@@ -63,11 +63,10 @@ fn change_of(old: &ModeRights, new: &ModeRights) -> Option<Change>
 fn is_asked(only: Option<Only>, change: Change) -> bool
     ensures { result ≡ is_asked only change }
 {
-    match (only, change) {
-        (Some(Only::More), Change::Less) => false,
-        (Some(Only::Less), Change::More) => false,
-        _ => true,
-    }
+    !matches!(
+        (only, change),
+        (Some(Only::More), Change::Less) | (Some(Only::Less), Change::More)
+    )
 }
 
 fn change_word(change: Change) -> &'static str
@@ -92,55 +91,8 @@ fn byte_lock_word(lock: ByteLock) -> &'static str
     }
 }
 
-fn is_same_lock(one: ByteLock, other: ByteLock) -> bool
-    ensures { result ≡ is_same_lock one other }
-{
-    match (one, other) {
-        (ByteLock::Open, ByteLock::Open) => true,
-        (ByteLock::Bypassed, ByteLock::Bypassed) => true,
-        (ByteLock::Frozen, ByteLock::Frozen) => true,
-        (ByteLock::Held, ByteLock::Held) => true,
-        _ => false,
-    }
-}
-
-#[tactic(auto, unfolding(crate::specs::Changes::rights_row, crate::specs::Steps::Marks::perms_text))]
-fn append_rights<S: Sink>(
-    out: &mut S,
-    run: &ComparedRun,
-    old: ModeRights,
-    new: ModeRights,
-    change: Change,
-) -> Result<(), NoMemory>
-    ensures ok { OnOk result (S.text out.new ≡ S.text out.old ++ rights_row run.now old new change) }
-    ensures err { OnErr result (S.text out.new ≡ S.text out.old) }
-{
-    let first = Hex::<ADDRESS_DIGITS>::new(run.first);
-    let last = Hex::<ADDRESS_DIGITS>::new(run.last);
-    let old = ModeMarks(old);
-    let new = ModeMarks(new);
-    let change = change_word(change);
-    append_line(out, format_args!("{first},{last},{old},{new},{change}\n"))
-}
-
-#[tactic(auto, unfolding(crate::specs::Changes::locks_row))]
-fn append_locks<S: Sink>(
-    out: &mut S,
-    run: &ComparedRun,
-    old: ByteLock,
-    new: ByteLock,
-) -> Result<(), NoMemory>
-    ensures ok { OnOk result (S.text out.new ≡ S.text out.old ++ locks_row run.now old new) }
-    ensures err { OnErr result (S.text out.new ≡ S.text out.old) }
-{
-    let first = Hex::<ADDRESS_DIGITS>::new(run.first);
-    let last = Hex::<ADDRESS_DIGITS>::new(run.last);
-    let old = byte_lock_word(old);
-    let new = byte_lock_word(new);
-    append_line(out, format_args!("{first},{last},{old},{new}\n"))
-}
-
 /// Appends the row of a run of rights, if it has a wanted difference, and returns whether it has.
+#[tactic(auto, unfolding(crate::specs::Changes::rights_row, crate::specs::Steps::Marks::perms_text))]
 fn write_rights<S: Sink>(
     out: &mut S,
     run: &ComparedRun,
@@ -155,7 +107,12 @@ fn write_rights<S: Sink>(
 {
     match change_of(&old, &new) {
         Some(change) if is_asked(only, change) => {
-            append_rights(out, run, old, new, change)?;
+            let first = Hex::<ADDRESS_DIGITS>::new(run.first);
+            let last = Hex::<ADDRESS_DIGITS>::new(run.last);
+            let old = ModeMarks(old);
+            let new = ModeMarks(new);
+            let change = change_word(change);
+            append_line(out, format_args!("{first},{last},{old},{new},{change}\n"))?;
             Ok(true)
         }
         _ => Ok(false),
@@ -163,6 +120,7 @@ fn write_rights<S: Sink>(
 }
 
 /// Appends the row of a run of locks, if they differ, and returns whether it has one.
+#[tactic(auto, unfolding(crate::specs::Changes::locks_row))]
 fn write_locks<S: Sink>(
     out: &mut S,
     run: &ComparedRun,
@@ -174,10 +132,14 @@ fn write_locks<S: Sink>(
     ensures has { IfOk result (λ has. has ≡ not (is_same_lock old new)) }
     ensures err { OnErr result (S.text out.new ≡ S.text out.old) }
 {
-    if is_same_lock(old, new) {
+    if old == new {
         return Ok(false);
     }
-    append_locks(out, run, old, new)?;
+    let first = Hex::<ADDRESS_DIGITS>::new(run.first);
+    let last = Hex::<ADDRESS_DIGITS>::new(run.last);
+    let old = byte_lock_word(old);
+    let new = byte_lock_word(new);
+    append_line(out, format_args!("{first},{last},{old},{new}\n"))?;
     Ok(true)
 }
 

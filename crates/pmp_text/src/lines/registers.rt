@@ -9,6 +9,7 @@ ghost use Rattle.pmp_text.specs.Dumps.{cfg_at, dump_text, form_line, form_value,
 use crate::lines::hexadecimal::Value;
 use crate::lines::{NoMemory, append_text};
 use crate::names::RegisterName;
+use crate::script::kept_value;
 use crate::sink::Sink;
 use pmp_core::{Csr, Hart, RegFile};
 use std::fmt;
@@ -63,12 +64,9 @@ impl<'a> Lines<'a> {
         } }
     {
         let Lines { form, file } = *self;
-        let value = match (form, csr) {
-            (Form::Script, Csr::Addr(entry)) if entry < file.entries() => {
-                file.registers().address(usize::from(entry))
-            }
-            (Form::Script, Csr::Addr(_)) => 0,
-            _ => file.read(csr),
+        let value = match form {
+            Form::Dump => file.read(csr),
+            Form::Script => kept_value(file, csr),
         };
         Line { form, csr, value }
     }
@@ -80,11 +78,7 @@ fn registers_for(hart: &Hart, entries: u8) -> u8
     ensures count { result ≡ div_ceil entries (bytes_in hart.now 0) }
     ensures most { result ≤ 16 }
 {
-    if hart.profile().is_rv32 {
-        entries.div_ceil(4)
-    } else {
-        entries.div_ceil(8)
-    }
+    entries.div_ceil(if hart.profile().is_rv32 { 4 } else { 8 })
 }
 
 /// Returns the configuration register with this index among those that the hart has.

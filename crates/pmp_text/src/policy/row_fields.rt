@@ -77,6 +77,7 @@ pub struct LabeledWords<'a> {
 }
 
 /// Returns seven fields of a record, from the one with this index on.
+#[tactic(auto, unfolding(crate::specs::Policies::seven_fields))]
 fn words_from(fields: &ByteRecord, first: usize) -> Option<Words<'_>>
     requires { first ≤ 1 }
     ensures { option_map seen_seven result ≡ seven_from (fields_of fields.now) first }
@@ -221,15 +222,11 @@ impl PolicyFields {
         ensures ordered { IfOk result (λ row. row.first ≤ row.last) }
     {
         if labeled {
-            match nine_fields(fields) {
-                Some(all) => all.row(moments),
-                None => Err(Refusal::BadRow.whole()),
-            }
+            let all = nine_fields(fields).ok_or(Refusal::BadRow.whole())?;
+            all.row(moments)
         } else {
-            match seven_fields(fields) {
-                Some(words) => PolicyFields::of_words(words, moments),
-                None => Err(Refusal::BadRow.whole()),
-            }
+            let words = seven_fields(fields).ok_or(Refusal::BadRow.whole())?;
+            PolicyFields::of_words(words, moments)
         }
     }
 

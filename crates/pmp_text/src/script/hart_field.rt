@@ -32,11 +32,7 @@ fn read_byte(word: &[u8], kind: Refusal) -> Result<u8, Refusal>
     ensures { result ≡ byte_number kind word.now }
 {
     let number = read_word_number(word).ok_or(Refusal::BadNumber)?;
-    if number < 256 {
-        Ok(number as u8)
-    } else {
-        Err(kind)
-    }
+    u8::try_from(number).or(Err(kind))
 }
 
 fn place_of_grain(bytes: u64) -> Option<usize>

@@ -95,10 +95,7 @@ impl Head {
         if self.says(statement) {
             return Err(Refusal::Twice.part(1).at_line(line));
         }
-        let said = match said_after(self.said, statement) {
-            Ok(said) => said,
-            Err(flaw) => return Err(flaw.at_line(line)),
-        };
+        let said = said_after(self.said, statement).map_err(|flaw| flaw.at_line(line))?;
         if self.lines.is_full() {
             return Err(Refusal::Memory.whole().at_line(0));
         }

@@ -74,8 +74,5 @@ pub fn is_headed(text: &[u8]) -> bool
     let Some(first) = SignificantLines::new(text).next() else {
         return false;
     };
-    match read_version(first.bytes) {
-        Ok(version) => version.has_rv32(),
-        Err(_) => false,
-    }
+    matches!(read_version(first.bytes), Ok(Version::Headed))
 }

@@ -11,7 +11,7 @@ use crate::flaw::Flaw;
 use crate::lines::registers::cfg_at;
 use crate::numbers::read_word_number;
 use crate::refusal::Refusal;
-use crate::script::start::kept_value;
+use crate::script::kept_value;
 use crate::script::statement::read_assignment;
 use crate::script::version::Version;
 use crate::script::words::Words;
@@ -114,11 +114,9 @@ fn read_lock(mut operands: Words) -> Result<u8, Flaw>
     if operands.next().is_some() {
         return Err(Refusal::BadLine.part(7));
     }
-    if is_word(word, b"L") {
-        Ok(128)
-    } else {
-        Err(Refusal::BadLine.part(6))
-    }
+    is_word(word, b"L")
+        .then_some(128)
+        .ok_or(Refusal::BadLine.part(6))
 }
 
 fn matching_bits(matching: AddressMatching) -> u8
@@ -297,10 +295,7 @@ fn low_end(file: &RegFile, number: u8) -> u64
 fn can_stand(file: &RegFile, number: u8, place: Place) -> bool
     ensures { result ≡ can_stand file.now number place }
 {
-    let begins = match place.low {
-        Some(low) => low == low_end(file, number),
-        None => true,
-    };
+    let begins = place.low.is_none_or(|low| low == low_end(file, number));
     begins && !(file.hart().profile().is_rv32 && place.address >= 1 << 32)
 }
 

@@ -19,10 +19,8 @@ pub struct NumberedLine<'a> {
 fn is_significant(line: &[u8]) -> bool
     ensures { result ≡ counts (words line.now) }
 {
-    match Words::new(line).next() {
-        Some(word) => !word.starts_with(b"#"),
-        None => false,
-    }
+    let first = Words::new(line).next();
+    first.is_some_and(|word| !word.starts_with(b"#"))
 }
 
 /// The remaining significant lines of a text.

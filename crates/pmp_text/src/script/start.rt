@@ -34,18 +34,14 @@ fn set_register(hart: &Hart, saved: &mut SavedRegisters, register: Csr, value: u
     ensures { saved.new ≡ with_register hart.now saved.old register value }
 {
     match register {
-        Csr::Cfg(number) => {
-            if number < 16 {
-                set_bytes(saved, 4 * usize::from(number), hart.bytes_in(number), value);
-            }
+        Csr::Cfg(number) if number < 16 => {
+            set_bytes(saved, 4 * usize::from(number), hart.bytes_in(number), value);
         }
-        Csr::Addr(number) => {
-            if usize::from(number) < MAX_ENTRIES {
-                saved.addresses[usize::from(number)] = value;
-            }
+        Csr::Addr(number) if usize::from(number) < MAX_ENTRIES => {
+            saved.addresses[usize::from(number)] = value;
         }
         Csr::Mseccfg => saved.mseccfg = value,
-        Csr::Mseccfgh => {}
+        _ => {}
     }
 }
 
@@ -53,9 +49,8 @@ fn set_register(hart: &Hart, saved: &mut SavedRegisters, register: Csr, value: u
 fn set_line(hart: &Hart, saved: &mut SavedRegisters, statement: HeadStatement)
     ensures { saved.new ≡ with_set hart.now saved.old statement }
 {
-    match statement {
-        HeadStatement::Hart(_) => {}
-        HeadStatement::Set(register, value) => set_register(hart, saved, register, value),
+    if let HeadStatement::Set(register, value) = statement {
+        set_register(hart, saved, register, value);
     }
 }
 
@@ -69,7 +64,7 @@ fn set_lines(hart: &Hart, saved: &mut SavedRegisters, lines: &[HeadLine])
 }
 
 /// Returns all that a register keeps.
-pub(super) fn kept_value(file: &RegFile, register: Csr) -> u64
+pub fn kept_value(file: &RegFile, register: Csr) -> u64
     ensures { result ≡ kept_value file.now register }
 {
     match register {
@@ -108,10 +103,8 @@ fn says_bits(statement: HeadStatement) -> bool
 fn line_of_bits(lines: &[HeadLine]) -> u64
     ensures { result ≡ unwrap_or (option_map (λ line. line.line) (find (λ line. says_bits line.statement) lines.now)) 0 }
 {
-    match lines.iter().find(|line| says_bits(line.statement)) {
-        Some(line) => line.line,
-        None => 0,
-    }
+    let line = lines.iter().find(|line| says_bits(line.statement));
+    line.map_or(0, |line| line.line)
 }
 
 /// Returns what is said about a hart, with as many address bits as its XLEN allows if none are given.
@@ -191,14 +184,9 @@ pub fn start(head: &Head, expected: &[Expectation]) -> Result<RegFile, ScriptFau
     requires { IsHead head.now }
     ensures { result ≡ started head.now.lines.items expected.now }
 {
-    match hart_of(head) {
-        Ok(hart) => {
-            let file = start_on(hart, head.lines());
-            match fault_on(&file, head.lines(), expected) {
-                Some(fault) => Err(fault),
-                None => Ok(file),
-            }
-        }
-        Err(fault) => Err(fault),
+    let file = start_on(hart_of(head)?, head.lines());
+    match fault_on(&file, head.lines(), expected) {
+        Some(fault) => Err(fault),
+        None => Ok(file),
     }
 }

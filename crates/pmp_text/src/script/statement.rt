@@ -131,10 +131,8 @@ fn read_head_statement(word: &[u8], operands: Words) -> Result<Statement, Flaw>
     } else if is_word(word, b"expect") {
         read_assignment(Version::Headed, operands).map(|(csr, value)| Statement::Expect(csr, value))
     } else if is_word(word, b"mark") {
-        match read_name(operands)? {
-            Some(name) => Ok(Statement::Mark(name)),
-            None => Err(Refusal::BadLine.whole()),
-        }
+        let name = read_name(operands)?.ok_or(Refusal::BadLine.whole())?;
+        Ok(Statement::Mark(name))
     } else {
         Err(Refusal::BadLine.part(0))
     }

@@ -25,10 +25,7 @@ impl Version {
     pub fn has_rv32(self) -> bool
         ensures { result ≡ has_rv32 self }
     {
-        match self {
-            Version::Sized(_) => false,
-            Version::Headed => true,
-        }
+        matches!(self, Version::Headed)
     }
 }
 

@@ -1,14 +1,12 @@
 //! The records of a trace or a policy, one after another.
 
-ghost use Rattle.std.specs.Prelude.{◌≡◌, ◌⊎◌, ◌∷◌, [], true, false, Ok, IfErr};
+ghost use Rattle.std.specs.Prelude.{◌≡◌, ◌∷◌, [], true, false, Ok};
 ghost use Rattle.csv.specs.Records.{fields_of};
-ghost use Rattle.pmp_text.specs.Outcomes.{no_memory_for_rows, no_input_for_rows};
 ghost use Rattle.pmp_text.specs.Steps.Records.{IsReading, records_left};
 ghost use Rattle.pmp_text.specs.Tables.{records_of};
 
-use crate::trace::TraceFault;
 use csv::{ByteRecord, Reader, ReaderBuilder};
-use std::alloc::Global;
+use std::alloc::{AllocError, Global};
 use std::marker::Model;
 
 /// The records of a text. A contract sees the remaining ones, and the fields of the one read last.
@@ -51,17 +49,29 @@ impl<'a> Records<'a> {
         }
     }
 
+    /// Begins another text. It is out of line so that rows of a trace needn't clear the room of a reader.
+    #[cold]
+    #[inline(never)]
+    pub fn reopen(&mut self, alloc: Global, text: &'a [u8])
+        ensures { self.new.left ≡ records_of text.now }
+    {
+        *self = Records::open(alloc, text);
+    }
+
     /// Reads the next record, if there is one, and returns whether there was one. After an error none is left.
-    pub fn read(&mut self) -> Result<bool, TraceFault>
+    ///
+    /// Of the reader's errors only the one of memory can occur, since it reads a slice and takes records of any length.
+    pub fn read(&mut self) -> Result<bool, AllocError>
         ensures next { result ≡ Ok true → self.old.left ≡ self.new.fields ∷ self.new.left }
         ensures end { result ≡ Ok false → (self.old.left ≡ []) × (self.new.left ≡ []) }
-        ensures failed { IfErr result (λ fault. (fault ≡ no_memory_for_rows) ⊎ (fault ≡ no_input_for_rows)) }
     {
         if self.has_ended {
             return Ok(false);
         }
         self.has_ended = true;
-        let found = self.reader.read_byte_record(&mut self.fields)?;
+        let Ok(found) = self.reader.read_byte_record(&mut self.fields) else {
+            return Err(AllocError);
+        };
         self.has_ended = !found;
         Ok(found)
     }

@@ -168,31 +168,14 @@ impl<'a> RowReader<'a> {
         ensures moments { self.new.moments ≡ self.old.moments }
         ensures place { self.new.place ≡ self.old.place }
     {
-        let Some(text) = self.lines else {
-            return next_said(&mut self.records, self.moments);
-        };
-        let Some((words, rest)) = plain_line(text) else {
-            return self.leave_lines(text);
-        };
-        self.lines = Some(rest);
-        Ok(Some(RowFields::of_words(words, self.moments)))
-    }
-
-    /// Returns what the next record says, if there is one, when no plain line is left. It is out of line so that rows
-    /// needn't clear the room of a reader.
-    #[cold]
-    #[inline(never)]
-    fn leave_lines(&mut self, text: &'a [u8]) -> Result<Option<Said>, TraceFault>
-        requires { self.old.records ≡ records_of text.now }
-        ensures some { IfOk result (λ found. IfSome found (λ said.
-            IsNext self.old.moments self.old.records said self.new.records)) }
-        ensures end { result ≡ Ok None → (self.old.records ≡ []) × (self.new.records ≡ []) }
-        ensures failed { IfErr result (λ fault. (fault ≡ no_memory_for_rows) ⊎ (fault ≡ no_input_for_rows)) }
-        ensures moments { self.new.moments ≡ self.old.moments }
-        ensures place { self.new.place ≡ self.old.place }
-    {
-        self.records = Records::open(self.alloc, text);
-        self.lines = None;
+        if let Some(text) = self.lines {
+            if let Some((words, rest)) = plain_line(text) {
+                self.lines = Some(rest);
+                return Ok(Some(RowFields::of_words(words, self.moments)));
+            }
+            self.records.reopen(self.alloc, text);
+            self.lines = None;
+        }
         next_said(&mut self.records, self.moments)
     }
 

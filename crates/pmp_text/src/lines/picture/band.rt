@@ -70,11 +70,7 @@ impl Size {
         requires inside { run.now.last < ADDRESS_LIMIT }
         ensures { result.0 ≡ size_of run.now.first run.now.last }
     {
-        if run.last + 1 == ADDRESS_LIMIT {
-            Size(None)
-        } else {
-            Size(Some(run.last + 1 - run.first))
-        }
+        Size((run.last + 1 != ADDRESS_LIMIT).then_some(run.last + 1 - run.first))
     }
 }
 

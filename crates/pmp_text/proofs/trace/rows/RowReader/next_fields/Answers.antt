@@ -5,8 +5,8 @@ use Rattle.pmp_text.specs.Traces.{row_in}
 use Rattle.pmp_text.proofs.PlainLines.{line_says}
 use Rattle.pmp_text.proofs.trace.rows.RowReader.next_fields.Goals as goal
 
-pub returns-clause-some : goal.returns-clause-some
-returns-clause-some c =
+pub returns-in-Some-plain_line-clause-some : goal.returns-in-Some-plain_line-clause-some
+returns-in-Some-plain_line-clause-some c =
     let words = seen_five c.in-Some-plain_line.words in
     let (reads, whole) = c.in-Some-plain_line.ensures in (
       five_words words,
