@@ -10,7 +10,7 @@ _pmp() {
         check) words='--explain --after --expect --names M S U fetch load store stdin'; files=yes ;;
         why) words='--explain --after --names --format M S U fetch load store stdin'; files=yes ;;
         audit) words='--explain --checkers --long --jobs --first-row --names stdin'; files=yes ;;
-        policy) words='--explain --each-write --strict --from --names --format stdin'; files=yes ;;
+        policy) words='--explain --each-write --all --strict --from --names --format stdin'; files=yes ;;
         dump) words='--explain --after --script stdin'; files=yes ;;
         picture) words='--explain --after --names stdin'; files=yes ;;
         map | entries) words='--explain --after --names --format stdin'; files=yes ;;

@@ -40,6 +40,7 @@ complete -c pmp -n '__fish_seen_subcommand_from audit' -l jobs -x -d 'decide a l
 complete -c pmp -n '__fish_seen_subcommand_from audit' -l first-row -x \
     -d "give a long trace's first row the number N"
 complete -c pmp -n '__fish_seen_subcommand_from policy' -l each-write -d 'ask after each write too'
+complete -c pmp -n '__fish_seen_subcommand_from policy' -l all -d 'write each breach of a row'
 complete -c pmp -n '__fish_seen_subcommand_from policy' -l strict -d 'refuse a policy without rows'
 complete -c pmp -n '__fish_seen_subcommand_from policy' -l from -d 'write a policy of what is closed'
 complete -c pmp -n '__fish_seen_subcommand_from diff' -l old-after -x \

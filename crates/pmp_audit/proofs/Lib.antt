@@ -25,6 +25,7 @@ pub mod LastingMoments
 pub mod PolicySteps
 pub mod PolicySweep
 pub mod PolicyVerdicts
+pub mod OneListOfBreaches
 pub mod OnePolicyAnswer
 pub mod Differences
 pub mod OneDifference

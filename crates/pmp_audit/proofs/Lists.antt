@@ -1,5 +1,5 @@
 -- Lists side by side.
-use Rattle.std.proofs.Common.{◌≡◌, List, [], ◌∷◌, refl}
+use Rattle.std.proofs.Common.{◌≡◌, List, [], ◌∷◌, ap, length, refl, suc}
 use Rattle.std.specs.List.{AllZip}
 
 module _ {A B : Type 0} (R : A → B → Type 0) where
@@ -15,3 +15,9 @@ module _ {A B : Type 0} (R : A → B → Type 0) where
       let first = one x y z p.0 q.0 in
       let rest = one_list one xs ys zs p.1 q.1 in
       cc
+
+  pub same_length : (xs : List A) (ys : List B) → AllZip R xs ys → length xs ≡ length ys
+  same_length [] [] are = refl
+  same_length [] (y ∷ ys) are = absurd are
+  same_length (x ∷ xs) [] are = absurd are
+  same_length (x ∷ xs) (y ∷ ys) are = ap suc (same_length xs ys are.1)

@@ -1,6 +1,6 @@
 -- A script has one draft of a policy, and breaks no row of it.
 use Rattle.std.proofs.Common.{◌≡◌, ℕ, List, [], ◌∷◌, ◌++◌, map, refl, sym, ap, ◌∙◌}
-use Rattle.std.specs.Prelude.{count_by}
+use Rattle.std.specs.Prelude.{count_by, zip}
 use Rattle.std.specs.List.{AllByRecursion, AllZip, flat_map}
 use Rattle.std.proofs.lemmas.List.Elements.{recursion_from_All}
 use Rattle.pmp_core.specs.declared.access.Kind.{Kind}
@@ -16,7 +16,11 @@ use Rattle.pmp_text.specs.Verdicts.{is_breach}
 use Rattle.pmp_lint.specs.EndState.{end_of}
 use Rattle.pmp_audit.specs.declared.policy_check.steps.Pace.{Pace}
 use Rattle.pmp_audit.specs.Laws.{DraftHoldsLaw, OneDraftLaw}
-use Rattle.pmp_audit.specs.PolicyCheck.{IsVerdict, policy_summary, verdicts_text}
+use Rattle.pmp_audit.specs.declared.policy_check.Breaches.{Breaches}
+use Rattle.pmp_audit.specs.declared.policy_check.Breaches.TheVariants as breaches
+use Rattle.pmp_audit.specs.PolicyBreaches.{IsTold}
+use Rattle.pmp_audit.specs.PolicyCheck.{IsVerdict}
+use Rattle.pmp_audit.specs.PolicyTexts.{policy_summary, told_text}
 use Rattle.pmp_audit.specs.PolicyDraft.{AreNeverRows, IsDraftText, IsModeText, header_text, last_moment, never_row}
 use Rattle.pmp_audit.proofs.OneClosedList.{one_closed_list}
 use Rattle.pmp_audit.proofs.OnePolicyAnswer.{one_policy_answer}
@@ -58,18 +62,29 @@ module _ (pace : Pace) (script : ScriptContents) where
   all_verdicts [] are = tt
   all_verdicts (row ∷ more) (is, rest) = (is, all_verdicts more rest)
 
+told_once : (breaches : Breaches) (pace : Pace) (script : ScriptContents) (row : PolicyRow)
+    → IsTold breaches pace script row Holds (Holds ∷ [])
+told_once breaches.First pace script row = refl
+told_once breaches.All pace script row = refl
+
+all_told : (breaches : Breaches) (pace : Pace) (script : ScriptContents) (rows : List PolicyRow)
+    → AllZip (λ (row, verdict). IsTold breaches pace script row verdict)
+    (zip rows (map (λ (_ : PolicyRow). Holds) rows)) (map (λ (_ : PolicyRow). Holds ∷ []) rows)
+all_told breaches pace script [] = tt
+all_told breaches pace script (row ∷ rows) = (told_once breaches pace script row, all_told breaches pace script rows)
+
 none_broken : (rows : List PolicyRow) → count_by is_breach (map (λ (_ : PolicyRow). Holds) rows) ≡ 0
 none_broken [] = refl
 none_broken (row ∷ more) = none_broken more
 
 pub unbroken_draft : DraftHoldsLaw
-unbroken_draft pace script draft summary text is said =
+unbroken_draft breaches pace script draft summary text is said =
     let contents : said.contents ≡ is.contents = cc (said.script_means, is.script_means) in
     let moments = rw contents at said.moments_are in
     let rows = is.holds.rows in
     let verdicts = map (λ (_ : PolicyRow). Holds) rows in
-    let one = one_policy_answer pace script draft summary (policy_summary rows verdicts) text
-    (verdicts_text (policy_labels draft) verdicts) said (record {
+    let one = one_policy_answer breaches pace script draft summary (policy_summary rows verdicts) text
+    (told_text (policy_labels draft) (map (λ (_ : PolicyRow). Holds ∷ []) rows)) said (record {
       contents = is.contents;
       script_means = is.script_means;
       moments = said.moments;
@@ -79,6 +94,8 @@ unbroken_draft pace script draft summary text is said =
       verdicts = verdicts;
       judged = all_verdicts pace is.contents rows
           (recursion_from_All (λ row. IsVerdict pace is.contents row Holds) rows (is.holds.hold pace));
+      told = map (λ (_ : PolicyRow). Holds ∷ []) rows;
+      told_are = all_told breaches pace is.contents rows;
       text_is = refl;
       counted = refl;
     }) in

@@ -4,7 +4,7 @@ use Rattle.std.proofs.Common.{Bool, inl, inr, arith}
 use Rattle.std.proofs.Math.Bridge.{le_prop}
 use Rattle.std.proofs.lemmas.Bool.{cases_lt, false≢true}
 use Rattle.std.proofs.lemmas.Option.{none-some}
-use Rattle.std.specs.Prelude.{IsSome}
+use Rattle.std.specs.Prelude.{IsSome, zip}
 use Rattle.pmp_core.specs.declared.access.TheConstants.{ADDRESS_LIMIT}
 use Rattle.pmp_core.specs.Matching.{Matches}
 use Rattle.pmp_core.specs.RegisterFile.{RegisterFile}
@@ -25,8 +25,10 @@ use Rattle.pmp_text.specs.Policies.{policy_fields}
 use Rattle.pmp_audit.specs.Laws.{OnePolicyAnswerLaw}
 use Rattle.pmp_audit.specs.PolicyCheck.{IsBroken, IsFirstBreach, IsFirstIn, IsFirstNotHeld, IsFirstOf, IsFirstOfAll}
 use Rattle.pmp_audit.specs.PolicyCheck.{IsFirstRun, IsNotHeld}
-use Rattle.pmp_audit.specs.PolicyCheck.{IsBreachOf, IsVerdict, IsVerdictBy, IsVerdictOn, policy_summary, state_after}
-use Rattle.pmp_audit.specs.PolicyCheck.{step_count, verdicts_text}
+use Rattle.pmp_audit.specs.PolicyCheck.{IsBreachOf, IsVerdict, IsVerdictBy, IsVerdictOn, state_after, step_count}
+use Rattle.pmp_audit.specs.PolicyTexts.{policy_summary, told_text}
+use Rattle.pmp_audit.specs.PolicyBreaches.{IsTold}
+use Rattle.pmp_audit.proofs.OneListOfBreaches.{told_alike}
 use Rattle.pmp_audit.proofs.Lists.{one_list}
 use Rattle.pmp_audit.proofs.LastingMoments.{one_moments}
 
@@ -214,7 +216,7 @@ same_rows (row ∷ one) (another ∷ other) same =
 -- ---- the law
 
 pub one_policy_answer : OnePolicyAnswerLaw
-one_policy_answer pace script policy one other text another said too =
+one_policy_answer breaches pace script policy one other text another said too =
     let contents : said.contents ≡ too.contents = cc (said.script_means, too.script_means) in
     let moments : said.moments ≡ too.moments =
     one_moments too.contents said.moments too.moments (rw contents at said.moments_are) too.moments_are in
@@ -225,8 +227,11 @@ one_policy_answer pace script policy one other text another said too =
     let verdicts = one_list (IsVerdict pace too.contents)
     (λ row. one_told row.coming (IsBreachOf pace too.contents row)
     (one_verdict_by (state_after pace too.contents) row (step_count pace too.contents.batches row.from)
-    (step_count pace too.contents.batches row.to) row.demand)) too.rows said.verdicts too.verdicts judged too.judged in (
+    (step_count pace too.contents.batches row.to) row.demand)) too.rows said.verdicts too.verdicts judged too.judged in
+    let told = one_list (λ (row, verdict). IsTold breaches pace too.contents row verdict)
+    (λ (row, verdict). told_alike breaches pace too.contents row verdict) (zip too.rows too.verdicts) said.told too.told
+    (rw (contents, rows, verdicts) at said.told_are) too.told_are in (
       said.counted ∙ ap (λ rows. policy_summary rows said.verdicts) rows ∙ ap (policy_summary too.rows) verdicts
           ∙ sym too.counted,
-      said.text_is ∙ ap (verdicts_text (policy_labels policy)) verdicts ∙ sym too.text_is,
+      said.text_is ∙ ap (told_text (policy_labels policy)) told ∙ sym too.text_is,
     )

@@ -1,10 +1,11 @@
 -- The verdicts on a policy's rows, one after another.
 use Rattle.std.proofs.Common.{◌≡◌, ℕ, ◌+◌, ◌<◌, cond, List, [], ◌∷◌, ◌++◌, length, map, None, Ok, Some}
 use Rattle.std.proofs.Common.{get_or, suc, take, sym, ap, ◌∙◌, append_assoc, arith}
-use Rattle.std.specs.Prelude.{All, count_by, slice_get}
+use Rattle.std.specs.Prelude.{All, count_by, slice_get, zip}
 use Rattle.std.specs.List.{AllZip, enumerate_from, flat_map, position_from}
 use Rattle.std.specs.Option.{option_or}
 use Rattle.std.proofs.lemmas.List.{append-nil, flat_map_more, length-append, length-map, map-append, take_more}
+use Rattle.std.proofs.lemmas.List.Elements.{AllZip-push}
 use Rattle.std.proofs.lemmas.List.Sums.{sum_by_push}
 use Rattle.pmp_text.specs.declared.lines.verdict.Verdict.{Verdict}
 use Rattle.pmp_text.specs.Moments.{KnownMoments}
@@ -13,31 +14,34 @@ use Rattle.pmp_text.specs.Contents.{ScriptContents}
 use Rattle.pmp_text.specs.Labels.{LabelText, policy_labels}
 use Rattle.pmp_text.specs.Policies.{policy_fields, policy_meaning}
 use Rattle.pmp_text.specs.Scripts.{script_meaning}
-use Rattle.pmp_text.specs.Verdicts.{is_breach, verdict_row}
+use Rattle.pmp_text.specs.Verdicts.{is_breach}
 use Rattle.pmp_text.proofs.Numbered.{enumerate_from-push}
 use Rattle.pmp_text.proofs.PieceFaults.{position_apart}
 use Rattle.pmp_audit.specs.declared.policy_check.PolicySummary.{PolicySummary}
 use Rattle.pmp_audit.specs.declared.policy_check.steps.Pace.{Pace}
-use Rattle.pmp_audit.specs.PolicyCheck.{IsVerdict, PolicySays, policy_summary, verdicts_text}
+use Rattle.pmp_audit.specs.declared.policy_check.Breaches.{Breaches}
+use Rattle.pmp_audit.specs.PolicyBreaches.{IsTold}
+use Rattle.pmp_audit.specs.PolicyCheck.{IsVerdict}
 use Rattle.pmp_audit.specs.declared.policy_check.sweep.Judged.{Judged}
 use Rattle.pmp_audit.specs.Moments.{AreMoments}
-use Rattle.pmp_audit.specs.PolicyRows.{AreWritten}
+use Rattle.pmp_audit.specs.PolicyRows.{AreWritten, IsToldOf}
 use Rattle.pmp_audit.specs.PolicySweep.{rows_of, told_of, verdicts_of}
+use Rattle.pmp_audit.specs.PolicyTexts.{PolicySays, policy_summary, told_rows, told_text}
+use Rattle.pmp_audit.proofs.Lists.{same_length}
 
--- the row of a verdict at this place
-abbrev row_at : List LabelText → (index : ℕ) → Verdict → List ℕ
-row_at labels index verdict = verdict_row (index + 1) verdict (slice_get labels index)
+-- what is told of the row at this place
+abbrev rows_at : List LabelText → (index : ℕ) → List Verdict → List ℕ
+rows_at labels index told = told_rows (index + 1) (slice_get labels index) told
 
-verdicts_text-push : (labels : List LabelText) (verdicts : List Verdict) (verdict : Verdict)
-    → verdicts_text labels (verdicts ++ verdict ∷ [])
-    ≡ verdicts_text labels verdicts ++ row_at labels (length verdicts) verdict
-unfolding verdicts_text
-verdicts_text-push labels verdicts verdict =
-    let line : ℕ × Verdict → List ℕ = λ (index, v). row_at labels index v in
-    let index : 0 + length verdicts ≡ length verdicts = omega arith in
-    ap (flat_map line) (enumerate_from-push 0 verdicts verdict)
-    ∙ sym (flat_map_more line [] (enumerate_from 0 verdicts) (0 + length verdicts, verdict))
-    ∙ ap (λ (n : ℕ). verdicts_text labels verdicts ++ row_at labels n verdict) index
+told_text-push : (labels : List LabelText) (all : List (List Verdict)) (told : List Verdict)
+    → told_text labels (all ++ told ∷ []) ≡ told_text labels all ++ rows_at labels (length all) told
+unfolding told_text
+told_text-push labels all told =
+    let line : ℕ × List Verdict → List ℕ = λ (index, v). rows_at labels index v in
+    let index : 0 + length all ≡ length all = omega arith in
+    ap (flat_map line) (enumerate_from-push 0 all told)
+    ∙ sym (flat_map_more line [] (enumerate_from 0 all) (0 + length all, told))
+    ∙ ap (λ (n : ℕ). told_text labels all ++ rows_at labels n told) index
 
 same_summary : (one other : PolicySummary) → one.rows ≡ other.rows → one.broken ≡ other.broken
     → one.bare ≡ other.bare → one ≡ other
@@ -52,16 +56,19 @@ bare_push rows row =
     ap (λ (n : ℕ). option_or (position_from (λ row. row.is_bare) 1 rows) (cond row.is_bare (Some n) None)) number
     ∙ sym (position_apart (λ (r : PolicyRow). r.is_bare) rows (row ∷ []) 1)
 
-pub none_written : (labels : List LabelText) (held : List ℕ) (summary : PolicySummary) → summary.rows ≡ 0
-    → summary.broken ≡ 0 → summary.bare ≡ None → AreWritten [] labels held held summary
-unfolding verdicts_text
-none_written labels held summary rows broken bare = record {
-  text_is = sym (append-nil held);
-  counted = same_summary summary (policy_summary [] []) rows broken bare;
-}
+module _ (Is : Judged → List Verdict → Type 0) where
+  pub none_written : (labels : List LabelText) (held : List ℕ) (summary : PolicySummary) → summary.rows ≡ 0
+      → summary.broken ≡ 0 → summary.bare ≡ None → AreWritten Is [] labels held held summary
+  unfolding told_text
+  none_written labels held summary rows broken bare = record {
+    told = [];
+    told_are = tt;
+    text_is = sym (append-nil held);
+    counted = same_summary summary (policy_summary [] []) rows broken bare;
+  }
 
-module _ (judged : List Judged) (labels : List LabelText) (before held : List ℕ) (summary : PolicySummary)
-    (so_far : AreWritten judged labels before held summary) where
+module _ (Is : Judged → List Verdict → Type 0) (judged : List Judged) (labels : List LabelText)
+    (before held : List ℕ) (summary : PolicySummary) (so_far : AreWritten Is judged labels before held summary) where
   abbrev asked : List PolicyRow
   asked = rows_of judged
 
@@ -92,25 +99,23 @@ module _ (judged : List Judged) (labels : List LabelText) (before held : List �
         ∙ bare_push asked one.row in
         same_summary more (policy_summary (asked ++ one.row ∷ []) (verdicts ++ told_of one ∷ [])) many faults first
 
-    -- the next verdict stands behind what was held
-    abbrev pub IsNext : Type 0
-    IsNext = after ≡ held ++ verdict_row more.rows (told_of one) (slice_get labels summary.rows)
-
-    written : more.rows ≡ summary.rows + 1 → IsNext
-        → after ≡ before ++ verdicts_text labels (verdicts ++ told_of one ∷ [])
-    written one_more appended =
-        let last = row_at labels (length verdicts) (told_of one) in
-        appended ∙ ap (λ (n : ℕ). held ++ verdict_row n (told_of one) (slice_get labels summary.rows)) one_more
-        ∙ ap (λ (n : ℕ). held ++ row_at labels n (told_of one)) verdicts_so_far
-        ∙ ap (λ l. l ++ last) so_far.text_is ∙ append_assoc before (verdicts_text labels verdicts) last
-        ∙ ap (λ l. before ++ l) (sym (verdicts_text-push labels verdicts (told_of one)))
-
-    pub one_written : IsNext → IsCounted → AreWritten (judged ++ one ∷ []) labels before after more
-    one_written appended all =
+    pub one_written : (told : List Verdict) → Is one told
+        → after ≡ held ++ told_rows more.rows (slice_get labels summary.rows) told → IsCounted
+        → AreWritten Is (judged ++ one ∷ []) labels before after more
+    one_written told is appended all =
         let rows_more = sym (map-append (λ (j : Judged). j.row) judged (one ∷ [])) in
         let verdicts_more = sym (map-append told_of judged (one ∷ [])) in
+        let place : summary.rows ≡ length so_far.told =
+        rows_so_far ∙ same_length Is judged so_far.told so_far.told_are in
+        let last = rows_at labels (length so_far.told) told in
         record {
-          text_is = written all.0 appended ∙ ap (λ vs. before ++ verdicts_text labels vs) verdicts_more;
+          told = so_far.told ++ told ∷ [];
+          told_are = AllZip-push Is judged so_far.told one told so_far.told_are is;
+          text_is = appended
+              ∙ ap (λ (n : ℕ). held ++ told_rows n (slice_get labels summary.rows) told) all.0
+              ∙ ap (λ (n : ℕ). held ++ rows_at labels n told) place ∙ ap (λ l. l ++ last) so_far.text_is
+              ∙ append_assoc before (told_text labels so_far.told) last
+              ∙ ap (λ l. before ++ l) (sym (told_text-push labels so_far.told told));
           counted = counted all ∙ (λ i. policy_summary (rows_more i) (verdicts_more i));
         }
 
@@ -128,14 +133,24 @@ each_judged R (one ∷ judged) all = (
   each_judged R judged (λ k d inside. all (suc k) d (omega arith)),
 )
 
-pub policy_says : (pace : Pace) (script policy : List ℕ) (contents : ScriptContents) (rows : List PolicyRow)
-    (judged : List Judged) (summary : PolicySummary) (moments : KnownMoments)
+-- what is told of each row, beside the row and its verdict
+each_told : (R : PolicyRow → Verdict → List Verdict → Type 0) (judged : List Judged) (told : List (List Verdict))
+    → AllZip (λ one. R one.row (told_of one)) judged told
+    → AllZip (λ (row, verdict). R row verdict) (zip (rows_of judged) (verdicts_of judged)) told
+each_told R [] [] are = tt
+each_told R [] (some ∷ told) are = absurd are
+each_told R (one ∷ judged) [] are = absurd are
+each_told R (one ∷ judged) (some ∷ told) are = (are.0, each_told R judged told are.1)
+
+pub policy_says : (breaches : Breaches) (pace : Pace) (script policy : List ℕ) (contents : ScriptContents)
+    (rows : List PolicyRow) (judged : List Judged) (summary : PolicySummary) (moments : KnownMoments)
     → script_meaning script ≡ Ok contents → AreMoments contents moments
     → policy_meaning moments policy ≡ Ok (map policy_fields rows) → rows_of judged ≡ rows
     → All (λ one. IsVerdict pace contents one.row (told_of one)) judged → (text : List ℕ)
-    → AreWritten judged (policy_labels policy) [] text summary → PolicySays pace script policy summary text
-policy_says pace script policy contents rows judged summary moments script_means moments_are policy_means same all text
-    written =
+    → AreWritten (IsToldOf breaches pace contents) judged (policy_labels policy) [] text summary
+    → PolicySays breaches pace script policy summary text
+policy_says breaches pace script policy contents rows judged summary moments script_means moments_are policy_means same
+    all text written =
     record {
       contents = contents;
       script_means = script_means;
@@ -145,6 +160,8 @@ policy_says pace script policy contents rows judged summary moments script_means
       policy_means = policy_means ∙ ap (λ (l : List PolicyRow). Ok (map policy_fields l)) (sym same);
       verdicts = verdicts_of judged;
       judged = each_judged (IsVerdict pace contents) judged all;
+      told = written.told;
+      told_are = each_told (IsTold breaches pace contents) judged written.told written.told_are;
       text_is = written.text_is;
       counted = written.counted;
     }

@@ -14,7 +14,6 @@ use Rattle.pmp_core.specs.RegisterWrite.{step}
 use Rattle.pmp_text.specs.Contents.{ScriptContents}
 use Rattle.pmp_text.specs.Effects.{effect_row}
 use Rattle.pmp_text.proofs.SpacedWords.{range_more}
-use Rattle.pmp_audit.specs.declared.accepted_reason.AcceptedReason.{AcceptedReason}
 use Rattle.pmp_audit.specs.declared.write_list.EventSummary.{EventSummary}
 use Rattle.pmp_audit.specs.WriteList.{PlacedEvent, placed, events_of, file_before, rows_text, has_fault}
 use Rattle.pmp_audit.specs.WriteList.{event_summary}
@@ -42,14 +41,14 @@ left-append : (file : RegisterFile) (xs ys : List PlacedEvent)
 left-append file [] ys = refl
 left-append file (it ∷ xs) ys = left-append (step file it.event) xs ys
 
-turned-append : (accepted : List AcceptedReason) (file : RegisterFile) (xs ys : List PlacedEvent)
+turned-append : (accepted : List ℕ) (file : RegisterFile) (xs ys : List PlacedEvent)
     → turned_from accepted file (xs ++ ys)
     ≡ turned_from accepted file xs + turned_from accepted (file_left file xs) ys
 turned-append accepted file [] ys = omega arith
 turned-append accepted file (it ∷ xs) ys =
     let rest = turned-append accepted (step file it.event) xs ys in omega arith
 
-pub written_then : (accepted : List AcceptedReason) (from mid to : Written) (xs ys : List PlacedEvent)
+pub written_then : (accepted : List ℕ) (from mid to : Written) (xs ys : List PlacedEvent)
     → AreWritten accepted from mid xs → AreWritten accepted mid to ys → AreWritten accepted from to (xs ++ ys)
 written_then accepted from mid to xs ys first second =
     let n = from.summary.events + 1 in
@@ -72,7 +71,7 @@ written_then accepted from mid to xs ys first second =
           omega arith;
     }
 
-pub one_written : (accepted : List AcceptedReason) (from to : Written) (it : PlacedEvent)
+pub one_written : (accepted : List ℕ) (from to : Written) (it : PlacedEvent)
     → to.text ≡ from.text ++ effect_row (record {
       number = from.summary.events + 1;
       publication = it.publication;
@@ -130,7 +129,7 @@ module _ (start : RegisterFile) where
       ++ flat_map (λ (k, x). row_at all k x) (enumerate_from (length before + 1) rest)) (there before rest it)
       ∙ ap (λ (l : List ℕ). row file ++ l) tail
 
-  turned_by_place : (accepted : List AcceptedReason) (before rest : List PlacedEvent)
+  turned_by_place : (accepted : List ℕ) (before rest : List PlacedEvent)
       → count_by (λ (k, it). has_fault accepted (file_before start (before ++ rest) k) it.line it.event)
       (enumerate_from (length before) rest)
       ≡ turned_from accepted (file_left start before) rest
@@ -152,7 +151,7 @@ module _ (start : RegisterFile) where
   unfolding rows_text
   rows_all events = sym (rows_by_place [] events)
 
-  pub summary_all : (accepted : List AcceptedReason) (events : List PlacedEvent) (summary : EventSummary)
+  pub summary_all : (accepted : List ℕ) (events : List PlacedEvent) (summary : EventSummary)
       → summary.events ≡ 0 + length events → summary.not_stored ≡ 0 + turned_from accepted start events
       → summary ≡ event_summary accepted start events
   unfolding event_summary

@@ -3,7 +3,6 @@ use Rattle.std.specs.Prelude.{◌≡◌, ℕ, ◌+◌, List, [], ◌∷◌, ◌+
 use Rattle.pmp_core.specs.RegisterFile.{RegisterFile}
 use Rattle.pmp_core.specs.RegisterWrite.{step}
 use Rattle.pmp_text.specs.Effects.{effect_row}
-use Rattle.pmp_audit.specs.declared.accepted_reason.AcceptedReason.{AcceptedReason}
 use Rattle.pmp_audit.specs.declared.write_list.EventSummary.{EventSummary}
 use Rattle.pmp_audit.specs.WriteList.{PlacedEvent, has_fault}
 
@@ -18,7 +17,7 @@ rows_from number file (it ∷ rest) =
     ++ rows_from (number + 1) (step file it.event) rest
 
 -- how many of them aren't stored as written, and that isn't accepted
-abbrev pub turned_from : List AcceptedReason → RegisterFile → List PlacedEvent → ℕ
+abbrev pub turned_from : (accepted : List ℕ) → RegisterFile → List PlacedEvent → ℕ
 turned_from accepted file [] = 0
 turned_from accepted file (it ∷ rest) =
     (if has_fault accepted file it.line it.event then 1 else 0) + turned_from accepted (step file it.event) rest
@@ -30,7 +29,7 @@ pub record Written : Type 0 where
   pub summary : EventSummary
 
 -- these events lead from the one state to the other, are counted, and their rows were appended
-pub record AreWritten (accepted : List AcceptedReason) (from to : Written) (events : List PlacedEvent) : Type 0 where
+pub record AreWritten (accepted : List ℕ) (from to : Written) (events : List PlacedEvent) : Type 0 where
   pub rows : to.text ≡ from.text ++ rows_from (from.summary.events + 1) from.file events
   pub file_is : to.file ≡ file_left from.file events
   pub counted : to.summary.events ≡ from.summary.events + length events

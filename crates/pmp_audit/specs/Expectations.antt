@@ -8,9 +8,8 @@ use Rattle.pmp_core.specs.RegisterWrite.{step}
 use Rattle.pmp_text.specs.declared.expectation.Expectation.{Expectation}
 use Rattle.pmp_text.specs.Contents.{ScriptContents}
 use Rattle.pmp_text.specs.Expected.{expected_row}
-use Rattle.pmp_audit.specs.AcceptedReasons.{is_accepted_at}
-use Rattle.pmp_audit.specs.declared.accepted_reason.AcceptedReason.{AcceptedReason}
-use Rattle.pmp_audit.specs.declared.accepted_reason.Difference.TheVariants.{Unexpected}
+use Rattle.pmp_audit.specs.AcceptedReasons.{differs_text}
+use Rattle.pmp_lint.specs.Accepting.{is_accepted}
 
 -- the register file after the first `events` events of a script
 abbrev pub file_at_event : ScriptContents → (events : ℕ) → RegisterFile
@@ -29,6 +28,6 @@ expected_rows script expectations =
     flat_map (λ expectation. expected_row expectation (value_there script expectation)) expectations
 
 -- how many of them differ where that isn't accepted
-abbrev pub differing : List AcceptedReason → ScriptContents → List Expectation → ℕ
+abbrev pub differing : (accepted : List ℕ) → ScriptContents → List Expectation → ℕ
 differing accepted script expectations =
-    count_by (λ it. differs script it && not (is_accepted_at accepted Unexpected it.line)) expectations
+    count_by (λ it. differs script it && not (is_accepted accepted differs_text it.line)) expectations

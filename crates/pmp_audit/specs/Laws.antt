@@ -10,6 +10,7 @@ use Rattle.pmp_text.specs.declared.lines.since.Since.{Since}
 use Rattle.pmp_text.specs.declared.trace.Row.{Row}
 use Rattle.pmp_text.specs.Contents.{ScriptContents}
 use Rattle.pmp_text.specs.Reports.{AreDecided, file_behind}
+use Rattle.pmp_audit.specs.declared.policy_check.Breaches.{Breaches}
 use Rattle.pmp_audit.specs.declared.policy_check.PolicySummary.{PolicySummary}
 use Rattle.pmp_audit.specs.declared.policy_check.steps.Pace.{Pace}
 use Rattle.pmp_audit.specs.declared.script_diff.AskedChanges.{AskedChanges}
@@ -17,7 +18,7 @@ use Rattle.pmp_audit.specs.declared.trace_audit.Summary.{Summary}
 use Rattle.pmp_audit.specs.AskedFile.{SaysOfScript}
 use Rattle.pmp_audit.specs.ScriptDiff.{DiffSays}
 use Rattle.pmp_audit.specs.EntryList.{IsEntryList}
-use Rattle.pmp_audit.specs.PolicyCheck.{PolicySays}
+use Rattle.pmp_audit.specs.PolicyTexts.{PolicySays}
 use Rattle.pmp_audit.specs.PolicyDraft.{IsDraftOf}
 use Rattle.pmp_audit.specs.Since.{IsSince}
 use Rattle.pmp_audit.specs.TraceAudit.{AuditSays}
@@ -31,11 +32,12 @@ abbrev pub OneReportLaw : Type 0
 OneReportLaw = (script trace : List ℕ) (one other : Summary) (text another : List ℕ)
     → AuditSays script trace one text → AuditSays script trace other another → (one ≡ other) × (text ≡ another)
 
--- a script and a policy have only one answer and one summary, after publications and after events
+-- a script and a policy have only one answer and one summary, after publications and after events, with all breaches
+-- or without
 abbrev pub OnePolicyAnswerLaw : Type 0
-OnePolicyAnswerLaw = (pace : Pace) (script policy : List ℕ) (one other : PolicySummary) (text another : List ℕ)
-    → PolicySays pace script policy one text → PolicySays pace script policy other another
-    → (one ≡ other) × (text ≡ another)
+OnePolicyAnswerLaw = (breaches : Breaches) (pace : Pace) (script policy : List ℕ) (one other : PolicySummary)
+    (text another : List ℕ) → PolicySays breaches pace script policy one text
+    → PolicySays breaches pace script policy other another → (one ≡ other) × (text ≡ another)
 
 -- a script has only one draft of a policy
 abbrev pub OneDraftLaw : Type 0
@@ -43,8 +45,8 @@ OneDraftLaw = (script one other : List ℕ) → IsDraftOf script one → IsDraft
 
 -- of a script and its draft, `check_policy` says that no row is broken or unmet
 abbrev pub DraftHoldsLaw : Type 0
-DraftHoldsLaw = (pace : Pace) (script draft : List ℕ) (summary : PolicySummary) (text : List ℕ)
-    → IsDraftOf script draft → PolicySays pace script draft summary text → summary.broken ≡ 0
+DraftHoldsLaw = (breaches : Breaches) (pace : Pace) (script draft : List ℕ) (summary : PolicySummary)
+    (text : List ℕ) → IsDraftOf script draft → PolicySays breaches pace script draft summary text → summary.broken ≡ 0
 
 -- two scripts have only one list of differences, and one number of its rows
 abbrev pub OneDifferenceLaw : Type 0

@@ -35,4 +35,6 @@ pub mod LongParts
 pub mod AnsweredBytes
 pub mod PolicyQuestions
 pub mod PolicySweep
+pub mod PolicyBreaches
+pub mod PolicyTexts
 pub mod PolicyRows

@@ -1,7 +1,6 @@
 -- How the rows of a policy are judged, by bytes and by states of the register file (Volume II, 3.7.1.3).
-use Rattle.std.specs.Prelude.{◌≡◌, ◌≢◌, ℕ, ◌+◌, ◌<◌, ◌≤◌, Bool, true, false, List, [], ◌∷◌, length, map, take, count_by}
-use Rattle.std.specs.Prelude.{Option, Some, None, IsSome, Ok, Err, ◌⊎◌, option_map, slice_get}
-use Rattle.std.specs.List.{AllZip, enumerate_from, flat_map, position_from}
+use Rattle.std.specs.Prelude.{◌≡◌, ◌≢◌, ℕ, ◌+◌, ◌<◌, ◌≤◌, Bool, true, false, List, [], ◌∷◌, length, map, take}
+use Rattle.std.specs.Prelude.{Option, Some, None, IsSome, Ok, Err, ◌⊎◌, option_map}
 use Rattle.pmp_core.specs.declared.access.Kind.{Kind}
 use Rattle.pmp_core.specs.declared.access.Mode.{Mode}
 use Rattle.pmp_core.specs.declared.event.Event.{Event}
@@ -24,15 +23,13 @@ use Rattle.pmp_text.specs.declared.trace.TraceFault.{TraceFault}
 use Rattle.pmp_text.specs.Contents.{ScriptContents}
 use Rattle.pmp_text.specs.Outcomes.{no_input_for_rows}
 use Rattle.pmp_text.specs.declared.policy.row_fields.PolicyFields.{PolicyFields}
-use Rattle.pmp_text.specs.Labels.{LabelText, policy_labels}
 use Rattle.pmp_text.specs.Policies.{has_kind, has_mode, policy_fields, policy_meaning, proper_fields_fault}
 use Rattle.pmp_text.specs.Reports.{file_behind}
 use Rattle.pmp_text.specs.Scripts.{script_meaning}
 use Rattle.pmp_text.specs.Flaws.{at_row}
-use Rattle.pmp_text.specs.Verdicts.{is_breach, verdict_row}
+use Rattle.pmp_text.specs.Verdicts.{verdict_row}
 use Rattle.pmp_audit.specs.declared.fault.AuditFault.{AuditFault}
 use Rattle.pmp_audit.specs.declared.fault.AuditFault.TheVariants.{Policy, Script}
-use Rattle.pmp_audit.specs.declared.policy_check.PolicySummary.{PolicySummary}
 use Rattle.pmp_audit.specs.declared.policy_check.steps.Pace.{Pace}
 use Rattle.pmp_audit.specs.declared.policy_check.steps.Pace.TheVariants.{Publications, Events}
 use Rattle.pmp_audit.specs.Moments.{AreMoments}
@@ -139,33 +136,7 @@ IsVerdictOn coming.Waived IsSo verdict = verdict ≡ Unmet true
 abbrev pub IsVerdict : Pace → ScriptContents → PolicyRow → Verdict → Type 0
 IsVerdict pace script row = IsVerdictOn row.coming (IsBreachOf pace script row)
 
--- ---- a whole policy
-
--- a row for each verdict, numbered from 1, with its label if it has one
-unfoldable pub verdicts_text : List LabelText → List Verdict → List ℕ
-verdicts_text labels verdicts =
-    flat_map (λ (index, verdict). verdict_row (index + 1) verdict (slice_get labels index)) (enumerate_from 0 verdicts)
-
--- the number of rows, of those broken or unmet, and the number of the first that has a bare address
-abbrev pub policy_summary : List PolicyRow → List Verdict → PolicySummary
-policy_summary rows verdicts = record {
-  rows = length verdicts;
-  broken = count_by is_breach verdicts;
-  bare = position_from (λ row. row.is_bare) 1 rows;
-}
-
--- script and policy mean this, each row has its verdict, and the text has them all
-pub record PolicySays (pace : Pace) (script policy : List ℕ) (summary : PolicySummary) (text : List ℕ) : Type 0 where
-  pub contents : ScriptContents
-  pub script_means : script_meaning script ≡ Ok contents
-  pub moments : KnownMoments
-  pub moments_are : AreMoments contents moments
-  pub rows : List PolicyRow
-  pub policy_means : policy_meaning moments policy ≡ Ok (map policy_fields rows)
-  pub verdicts : List Verdict
-  pub judged : AllZip (IsVerdict pace contents) rows verdicts
-  pub text_is : text ≡ verdicts_text (policy_labels policy) verdicts
-  pub counted : summary ≡ policy_summary rows verdicts
+-- ---- one row's answer
 
 -- the script has these contents, the fields form a row for it, and the text is the row's verdict with this number
 pub record VerdictSays (pace : Pace) (script : List ℕ) (number : ℕ) (fields : PolicyFields) (verdict : Verdict)
@@ -185,6 +156,8 @@ VerdictRefuses script number fields (Policy fault) =
     (contents : ScriptContents) × (script_meaning script ≡ Ok contents)
     × (option_map (at_row number) (proper_fields_fault (length contents.batches) fields) ≡ Some fault)
 VerdictRefuses script number fields _ = ⊥
+
+-- ---- a faulty policy
 
 -- the script has no fault, and the policy has this one, or its input failed
 pub record IsFaultyPolicy (script policy : List ℕ) (fault : TraceFault) : Type 0 where

@@ -4,7 +4,6 @@ use Rattle.pmp_core.specs.declared.access.Access.{Access}
 use Rattle.pmp_core.specs.declared.decision.Decision.{Decision}
 use Rattle.pmp_text.specs.Contents.{ScriptContents}
 use Rattle.pmp_text.specs.declared.moments.When.{When}
-use Rattle.pmp_lint.specs.declared.accepted.Accepted.{Accepted}
 use Rattle.pmp_lint.specs.declared.answer_run.AnswerRun.{AnswerRun}
 use Rattle.pmp_lint.specs.declared.because.Because.{Because}
 use Rattle.pmp_lint.specs.Report.{LintSays}
@@ -30,5 +29,5 @@ abbrev pub ReasonsSay : (script : List ℕ) → Access → (after : Option When)
 ReasonsSay script access after decision text = SaysOfScript (IsReasonText access decision) script after text
 
 -- the text has the rows of the script's findings that aren't accepted, and `told` counts them
-abbrev pub FindingsSay : (script : List ℕ) → List Accepted → (told : ℕ) → (text : List ℕ) → Type 0
+abbrev pub FindingsSay : (script accepted : List ℕ) → (told : ℕ) → (text : List ℕ) → Type 0
 FindingsSay script accepted told text = LintSays script accepted [] text told

@@ -11,7 +11,6 @@ use Rattle.pmp_text.specs.Contents.{ScriptContents}
 use Rattle.pmp_text.specs.Effects.{effect_row}
 use Rattle.pmp_text.specs.Scripts.{script_meaning}
 use Rattle.pmp_audit.specs.AcceptedReasons.{has_other_reason}
-use Rattle.pmp_audit.specs.declared.accepted_reason.AcceptedReason.{AcceptedReason}
 use Rattle.pmp_audit.specs.declared.fault.AuditFault.{AuditFault}
 use Rattle.pmp_audit.specs.declared.fault.AuditFault.TheVariants.{Script}
 use Rattle.pmp_audit.specs.declared.write_list.EventSummary.{EventSummary}
@@ -57,13 +56,13 @@ is_not_stored file (Write csr value) = not (register_value (written file csr val
 is_not_stored file Reset = false
 
 -- such a write with a reason that isn't accepted
-abbrev pub has_fault : List AcceptedReason → RegisterFile → (line : ℕ) → Event → Bool
+abbrev pub has_fault : (accepted : List ℕ) → RegisterFile → (line : ℕ) → Event → Bool
 has_fault accepted file line (Write csr value) =
     is_not_stored file (Write csr value) && has_other_reason accepted line file csr value
 has_fault accepted file line Reset = false
 
 -- the number of events, and of such writes
-unfoldable pub event_summary : List AcceptedReason → (start : RegisterFile) → List PlacedEvent → EventSummary
+unfoldable pub event_summary : (accepted : List ℕ) → (start : RegisterFile) → List PlacedEvent → EventSummary
 event_summary accepted start events = record {
   events = length events;
   not_stored = count_by (λ (k, it). has_fault accepted (file_before start events k) it.line it.event)
@@ -75,7 +74,7 @@ abbrev pub all_rows : ScriptContents → List ℕ
 all_rows script = rows_text script.start (placed_events script) ++ expected_rows script script.expectations
 
 -- the counts of both
-abbrev pub write_summary : List AcceptedReason → ScriptContents → WriteSummary
+abbrev pub write_summary : (accepted : List ℕ) → ScriptContents → WriteSummary
 write_summary accepted script =
     let of_events = event_summary accepted script.start (placed_events script) in
     record {
@@ -86,7 +85,7 @@ write_summary accepted script =
     }
 
 -- the script has these contents, the text has a row for each of its events and expectations, and they are counted
-pub record WritesSay (accepted : List AcceptedReason) (script : List ℕ) (summary : WriteSummary) (text : List ℕ)
+pub record WritesSay (accepted : List ℕ) (script : List ℕ) (summary : WriteSummary) (text : List ℕ)
     : Type 0 where
   pub contents : ScriptContents
   pub script_means : script_meaning script ≡ Ok contents

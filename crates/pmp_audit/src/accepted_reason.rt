@@ -1,124 +1,42 @@
-//! Reasons why registers may differ from what a script writes or expects.
+//! Accepted reasons why registers may differ from what a script writes or expects.
 
 ghost use Rattle.std.specs.Prelude.{◌≡◌};
-ghost use Rattle.pmp_audit.specs.AcceptedReasons.{accepted_reason_said, difference_number, difference_text};
-ghost use Rattle.pmp_audit.specs.AcceptedReasons.{has_other_reason, is_accepted_at, reason_said};
+ghost use Rattle.std.specs.List.{list_all, list_any};
+ghost use Rattle.pmp_audit.specs.AcceptedReasons.{are_reasons, has_other_reason, is_reason_word};
 
 use pmp_core::{Csr, RegFile, WriteReason};
-use pmp_lint::{NameAt, is_line};
+use pmp_lint::{NameAt, is_accepted};
+use pmp_text::reason_word;
 
-/// Why a register doesn't read what a script writes or expects.
-#[derive(Clone, Copy, Debug, PartialEq, Eq)]
-pub enum Difference {
-    /// A write isn't stored as written, for this reason.
-    Write(WriteReason),
-    /// An expected value isn't what the register reads.
-    Unexpected,
-}
+/// The reason of an expected value that isn't what the register reads, as rows write it.
+pub const DIFFERS: &[u8] = b"differs";
 
-/// A reason that doesn't count against a script, at every line or at one.
-#[derive(Clone, Copy, Debug, PartialEq, Eq)]
-pub struct AcceptedReason {
-    pub reason: Difference,
-    /// The line, or none for every line.
-    pub line: Option<u64>,
-}
-
-impl Difference {
-    /// All of them: the reasons of writes, and that a value isn't the expected one.
-    const ALL: [Difference; 10] = [
-        Difference::Write(WriteReason::Absent),
-        Difference::Write(WriteReason::Bits),
-        Difference::Write(WriteReason::Frozen),
-        Difference::Write(WriteReason::Tor),
-        Difference::Write(WriteReason::Reserved),
-        Difference::Write(WriteReason::Lockdown),
-        Difference::Write(WriteReason::Sticky),
-        Difference::Write(WriteReason::Bypass),
-        Difference::Write(WriteReason::Grain),
-        Difference::Unexpected,
-    ];
-
-    /// Returns its number, from 1: that of the reason in their order, or the one behind them.
-    fn number(self) -> u8
-        ensures { result ≡ difference_number self }
-    {
-        match self {
-            Difference::Write(WriteReason::Absent) => 1,
-            Difference::Write(WriteReason::Bits) => 2,
-            Difference::Write(WriteReason::Frozen) => 3,
-            Difference::Write(WriteReason::Tor) => 4,
-            Difference::Write(WriteReason::Reserved) => 5,
-            Difference::Write(WriteReason::Lockdown) => 6,
-            Difference::Write(WriteReason::Sticky) => 7,
-            Difference::Write(WriteReason::Bypass) => 8,
-            Difference::Write(WriteReason::Grain) => 9,
-            Difference::Unexpected => 10,
-        }
-    }
-
-    /// Returns its word, as in rows.
-    fn word(self) -> &'static str
-        ensures { result.now ≡ difference_text self }
-    {
-        match self {
-            Difference::Write(WriteReason::Absent) => "absent",
-            Difference::Write(WriteReason::Bits) => "bits",
-            Difference::Write(WriteReason::Frozen) => "frozen",
-            Difference::Write(WriteReason::Tor) => "tor",
-            Difference::Write(WriteReason::Reserved) => "reserved",
-            Difference::Write(WriteReason::Lockdown) => "lockdown",
-            Difference::Write(WriteReason::Sticky) => "sticky",
-            Difference::Write(WriteReason::Bypass) => "bypass",
-            Difference::Write(WriteReason::Grain) => "grain",
-            Difference::Unexpected => "differs",
-        }
-    }
-
-    fn read(word: &[u8]) -> Option<Difference>
-        ensures { result ≡ reason_said word.now }
-    {
-        Difference::ALL
-            .iter()
-            .copied()
-            .find(|one| one.word().as_bytes() == word)
-    }
-}
-
-impl AcceptedReason {
-    /// Returns what a word accepts: `REASON` at every line, `REASON:LINE` at this one.
-    pub fn read(word: &[u8]) -> Option<AcceptedReason>
-        ensures { result ≡ accepted_reason_said word.now }
-    {
-        let said = NameAt::read(word)?;
-        let reason = Difference::read(said.name)?;
-        Some(AcceptedReason {
-            reason,
-            line: said.line,
-        })
-    }
-}
-
-/// Whether one of these accepts the reason at the line.
-pub fn is_accepted_at(accepted: &[AcceptedReason], reason: Difference, line: u64) -> bool
-    ensures { result ≡ is_accepted_at accepted.now reason line }
+/// Whether rows write such a reason: of a write that isn't stored as written, or `differs`.
+fn is_reason_word(name: &[u8]) -> bool
+    ensures { result ≡ is_reason_word name.now }
 {
-    accepted.iter().any(|one| one.reason.number() == reason.number() && is_line(one.line, line))
+    name == DIFFERS
+        || WriteReason::ALL
+            .iter()
+            .any(|reason| reason_word(*reason).as_bytes() == name)
+}
+
+/// Whether each of the words, which commas separate, is `REASON` or `REASON:LINE`, with a reason as rows write it.
+pub fn are_reasons(words: &[u8]) -> bool
+    ensures { result ≡ are_reasons words.now }
+{
+    words.split(|byte| *byte == b',').all(|word| NameAt::read(word).is_some_and(|it| is_reason_word(
+        it.name,
+    )))
 }
 
 /// Whether a reason why the register wouldn't read the value, if it were written now, isn't accepted at the line.
-pub fn has_other_reason(
-    accepted: &[AcceptedReason],
-    line: u64,
-    file: &RegFile,
-    csr: Csr,
-    value: u64,
-) -> bool
+pub fn has_other_reason(accepted: &[u8], line: u64, file: &RegFile, csr: Csr, value: u64) -> bool
     ensures { result ≡ has_other_reason accepted.now line file.now csr value }
 {
     let registers = file.registers();
     WriteReason::ALL.iter().any(|reason| {
         registers.is_reason(*reason, csr, value)
-            && !is_accepted_at(accepted, Difference::Write(*reason), line)
+            && !is_accepted(accepted, reason_word(*reason).as_bytes(), line)
     })
 }

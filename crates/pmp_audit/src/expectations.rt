@@ -4,8 +4,9 @@ ghost use Rattle.std.specs.Prelude.{◌≡◌, ◌++◌, IfOk, OnErr};
 ghost use Rattle.pmp_audit.specs.Growing.{HasGrown};
 ghost use Rattle.pmp_audit.specs.Expectations.{differing, expected_rows, file_at_event};
 
-use crate::accepted_reason::{AcceptedReason, Difference, is_accepted_at};
+use crate::accepted_reason::DIFFERS;
 use pmp_core::RegFile;
+use pmp_lint::is_accepted;
 use pmp_text::{Script, Sink, write_expected};
 use std::alloc::AllocError;
 
@@ -29,7 +30,7 @@ fn advance(script: &Script, file: &mut RegFile, done: u64, events: u64)
 pub fn write_expectations<S: Sink>(
     out: &mut S,
     script: &Script,
-    accepted: &[AcceptedReason],
+    accepted: &[u8],
 ) -> Result<u64, AllocError>
     ensures rows { IfOk result (λ _. S.text out.new ≡ S.text out.old
         ++ expected_rows script.now script.now.expectations) }
@@ -44,9 +45,7 @@ pub fn write_expectations<S: Sink>(
         done = expectation.events;
         let value = file.read(expectation.register);
         write_expected(out, expectation, value)?;
-        if value != expectation.value
-            && !is_accepted_at(accepted, Difference::Unexpected, expectation.line)
-        {
+        if value != expectation.value && !is_accepted(accepted, DIFFERS, expectation.line) {
             count += 1;
         }
     }

@@ -25,12 +25,12 @@ mod trace_audit;
 mod view;
 mod write_list;
 
-pub use accepted_reason::{AcceptedReason, Difference};
+pub use accepted_reason::are_reasons;
 pub use access_check::{append_check, check};
 pub use fault::{AuditFault, Side};
 pub use gate::{Gate, OpenGate};
 pub use long_audit::{PIECE, audit_long};
-pub use policy_check::{Pace, PolicySummary, append_verdict, check_policy};
+pub use policy_check::{Breaches, Pace, PolicySummary, append_verdict, check_policy};
 pub use policy_draft::{append_policy_from, policy_from};
 pub use reasons::{append_findings, append_reasons, explain, lint};
 pub use script_diff::{AskedChanges, append_diff, diff};

@@ -1,16 +1,21 @@
 //! The rows of a policy, each judged in all states that it asks about.
 
 ghost use Rattle.std.specs.Prelude.{◌≡◌, ◌+◌, ◌^◌, ◌<◌, ◌≤◌, ◌++◌, All, IfOk, IfErr, OnErr, OnOk, length, map};
-ghost use Rattle.std.specs.Prelude.{ℕ, [], List, None, Ok, Some, if◌then◌else◌, slice_get};
+ghost use Rattle.std.specs.Prelude.{ℕ, [], List, None, Ok, Some, if◌then◌else◌, option_copied, option_map, slice_get};
 ghost use Rattle.std.specs.Option.{option_or};
 ghost use Rattle.pmp_text.specs.Labels.{label_text};
 ghost use Rattle.pmp_text.specs.Scripts.{script_meaning};
-ghost use Rattle.pmp_text.specs.Verdicts.{is_breach, verdict_row};
+ghost use Rattle.pmp_text.specs.declared.lines.verdict.Verdict.{Verdict};
+ghost use Rattle.pmp_text.specs.declared.lines.verdict.Verdict.TheVariants.{Broken};
+ghost use Rattle.pmp_text.specs.Verdicts.{is_breach};
 ghost use Rattle.pmp_audit.specs.Answers.{Declines, IsAppended, IsWritten, IsRefused};
 ghost use Rattle.pmp_audit.specs.Fault.{fault_of_policy};
-ghost use Rattle.pmp_audit.specs.PolicyCheck.{PolicySays, PolicyRefuses, VerdictRefuses, VerdictSays};
-ghost use Rattle.pmp_audit.specs.PolicyRows.{AreWritten};
+ghost use Rattle.pmp_audit.specs.PolicyCheck.{PolicyRefuses, VerdictRefuses, VerdictSays};
+ghost use Rattle.pmp_audit.specs.PolicyRows.{AreWritten, IsToldOf};
+ghost use Rattle.pmp_audit.specs.PolicySweep.{rows_of, told_of};
+ghost use Rattle.pmp_audit.specs.PolicyTexts.{PolicySays, told_rows};
 
+mod breaches;
 mod question;
 mod search;
 mod steps;
@@ -19,15 +24,25 @@ mod sweep;
 use crate::answer::write_answer;
 use crate::fault::AuditFault;
 use crate::moments::moments_of;
+use crate::policy_check::breaches::breaches_of;
 use crate::policy_check::steps::Steps;
 use crate::policy_check::sweep::{Judged, judge, judge_rows};
 use pmp_text::{
-    EventLog, GrowingLog, Label, PolicyFields, PolicyRow, Script, Sink, Verdict, read_policy,
-    read_script, write_verdict,
+    Breach, EventLog, GrowingLog, Label, PolicyFields, PolicyRow, Script, Sink, Verdict,
+    read_policy, read_script, write_verdict,
 };
 use std::alloc::{AllocError, Global};
 use std::io::Write;
 pub use steps::Pace;
+
+/// Which breaches of a row are written.
+#[derive(Clone, Copy, Debug, PartialEq, Eq)]
+pub enum Breaches {
+    /// The first one, by time and then by address.
+    First,
+    /// Each, in the state in which it begins: where the state before has no run of the same bytes that breaks the row.
+    All,
+}
 
 /// How many rows a policy has, and how many of them are broken, or unmet though they don't allow it.
 #[derive(Clone, Copy, Debug, Default, PartialEq, Eq)]
@@ -41,7 +56,7 @@ pub struct PolicySummary {
 
 /// Judges each row of the policy after the script's publications that it names, or after each of their events, and
 /// writes a row for each, numbered from 1: that it holds, or its first breach by time and then by address, or that its
-/// moments never come.
+/// moments never come. With all breaches it writes a row for each of them.
 ///
 /// The script's fault comes before any of the policy. The text is complete before its first byte is written, so every
 /// refusal but `Output` leaves the output untouched. There is one pass over the states: a row is checked again only if
@@ -50,33 +65,35 @@ pub struct PolicySummary {
 pub fn check_policy<W: Write>(
     alloc: Global,
     pace: Pace,
+    breaches: Breaches,
     script: &[u8],
     policy: &[u8],
     writer: &mut W,
 ) -> Result<PolicySummary, AuditFault>
     ensures ok { IfOk result
-        (IsWritten (PolicySays pace script.now policy.now) (W.contents writer.old) (W.contents writer.new)) }
+        (IsWritten (PolicySays breaches pace script.now policy.now) (W.contents writer.old) (W.contents writer.new)) }
     ensures err { IfErr result
-        (IsRefused (PolicySays pace script.now policy.now) (W.contents writer.old) (W.contents writer.new)
+        (IsRefused (PolicySays breaches pace script.now policy.now) (W.contents writer.old) (W.contents writer.new)
         (PolicyRefuses script.now policy.now)) }
 {
     let mut log = GrowingLog::new(alloc);
     let script = read_script(&mut log, script)?;
-    check_rows(alloc, pace, &script, policy, writer)
+    check_rows(alloc, pace, breaches, &script, policy, writer)
 }
 
 /// Judges the rows of the policy, whatever text the script was read from.
 fn check_rows<W: Write>(
     alloc: Global,
     pace: Pace,
+    breaches: Breaches,
     script: &Script,
     policy: &[u8],
     writer: &mut W,
 ) -> Result<PolicySummary, AuditFault>
     ensures ok { (text : List ℕ) → script_meaning text ≡ Ok script.now → IfOk result
-        (IsWritten (PolicySays pace text policy.now) (W.contents writer.old) (W.contents writer.new)) }
+        (IsWritten (PolicySays breaches pace text policy.now) (W.contents writer.old) (W.contents writer.new)) }
     ensures err { (text : List ℕ) → script_meaning text ≡ Ok script.now → IfErr result
-        (IsRefused (PolicySays pace text policy.now) (W.contents writer.old) (W.contents writer.new)
+        (IsRefused (PolicySays breaches pace text policy.now) (W.contents writer.old) (W.contents writer.new)
         (PolicyRefuses text policy.now)) }
 {
     let policy = match read_policy(alloc, policy, &moments_of(script)) {
@@ -85,23 +102,28 @@ fn check_rows<W: Write>(
     };
     let steps = Steps { script, pace };
     let judged = judge_rows(alloc, &steps, &policy.rows)?;
-    write_judged(alloc, &judged, &policy.labels, writer)
+    write_judged(alloc, &steps, breaches, &judged, &policy.labels, writer)
 }
 
-/// Writes the verdicts on the rows, with the labels of those that have one.
+/// Writes what is told of the rows, with the labels of those that have one.
 fn write_judged<W: Write>(
     alloc: Global,
+    steps: &Steps<'_>,
+    breaches: Breaches,
     judged: &[Judged],
     labels: &[Label],
     writer: &mut W,
 ) -> Result<PolicySummary, AuditFault>
-    ensures ok { IfOk result (IsWritten (λ summary text. AreWritten judged.now (map label_text labels.now) [] text
+    requires { All (λ row. row.to ≤ length steps.now.script.now.batches) (rows_of judged.now) }
+    ensures ok { IfOk result (IsWritten (λ summary text. AreWritten
+        (IsToldOf breaches steps.now.pace steps.now.script.now) judged.now (map label_text labels.now) [] text
         summary) (W.contents writer.old) (W.contents writer.new)) }
-    ensures err { IfErr result (IsRefused (λ summary text. AreWritten judged.now (map label_text labels.now) [] text
+    ensures err { IfErr result (IsRefused (λ summary text. AreWritten
+        (IsToldOf breaches steps.now.pace steps.now.script.now) judged.now (map label_text labels.now) [] text
         summary) (W.contents writer.old) (W.contents writer.new) (λ _. ⊥)) }
 {
     let mut text = Vec::new(alloc);
-    let summary = write_verdicts(&mut text, judged, labels)?;
+    let summary = write_verdicts(alloc, &mut text, steps, breaches, judged, labels)?;
     write_answer(writer, &text, Ok(summary))
 }
 
@@ -137,45 +159,83 @@ pub fn append_verdict<L: EventLog, S: Sink>(
     Ok(verdict)
 }
 
-/// Appends the verdicts on the rows, with the labels of the rows that have one.
+/// Appends what is told of the rows, with the labels of the rows that have one.
 fn write_verdicts(
+    alloc: Global,
     out: &mut Vec<u8>,
+    steps: &Steps<'_>,
+    breaches: Breaches,
     judged: &[Judged],
     labels: &[Label],
 ) -> Result<PolicySummary, AllocError>
-    ensures { IfOk result (AreWritten judged.now (map label_text labels.now) out.old.items out.new.items) }
+    requires { All (λ row. row.to ≤ length steps.now.script.now.batches) (rows_of judged.now) }
+    ensures { IfOk result (AreWritten (IsToldOf breaches steps.now.pace steps.now.script.now) judged.now
+        (map label_text labels.now) out.old.items out.new.items) }
 {
     let mut summary = PolicySummary::default();
     for one in judged {
-        summary.add_row(out, &one.row, one.told(), labels)?;
+        write_told(alloc, out, steps, breaches, one, summary.rows, labels)?;
+        summary.count(one);
     }
     Ok(summary)
 }
 
+/// Appends what is told of the row at this index, from 0, with the label that it has there, if any.
+fn write_told(
+    alloc: Global,
+    out: &mut Vec<u8>,
+    steps: &Steps<'_>,
+    breaches: Breaches,
+    one: &Judged,
+    index: u64,
+    labels: &[Label],
+) -> Result<(), AllocError>
+    requires room { index + 1 < 2 ^ 64 }
+    requires within { one.now.row.to ≤ length steps.now.script.now.batches }
+    ensures { OnOk result ((told : List Verdict) × IsToldOf breaches steps.now.pace steps.now.script.now one.now told
+        × (out.new.items ≡ out.old.items
+        ++ told_rows (index + 1) (slice_get (map label_text labels.now) index) told)) }
+{
+    let label = labels.get(index as usize);
+    match (breaches, one.told()) {
+        (Breaches::All, Verdict::Broken(_)) => {
+            let all = breaches_of(alloc, steps, &one.row)?;
+            write_breaches(out, index + 1, &all, label)
+        }
+        (_, verdict) => write_verdict(out, index + 1, verdict, label),
+    }
+}
+
+/// Appends a row for each breach, under this row number.
+fn write_breaches(
+    out: &mut Vec<u8>,
+    number: u64,
+    all: &[Breach],
+    label: Option<&Label>,
+) -> Result<(), AllocError>
+    ensures { OnOk result (out.new.items ≡ out.old.items
+        ++ told_rows number (option_map label_text (option_copied label.entry)) (map Broken all.now)) }
+{
+    for breach in all {
+        write_verdict(out, number, Verdict::Broken(*breach), label)?;
+    }
+    Ok(())
+}
+
 impl PolicySummary {
-    /// Adds one more row, whose verdict it appends to a text.
-    fn add_row(
-        &mut self,
-        out: &mut Vec<u8>,
-        row: &PolicyRow,
-        verdict: Verdict,
-        labels: &[Label],
-    ) -> Result<(), AllocError>
+    /// Counts one more row.
+    fn count(&mut self, one: &Judged)
         requires rows { self.old.rows + 1 < 2 ^ 64 }
         requires broken { self.old.broken ≤ self.old.rows }
         ensures rows { self.new.rows ≡ self.old.rows + 1 }
-        ensures broken { self.new.broken ≡ self.old.broken + (if is_breach verdict then 1 else 0) }
+        ensures broken { self.new.broken ≡ self.old.broken + (if is_breach (told_of one.now) then 1 else 0) }
         ensures bare { self.new.bare ≡ option_or self.old.bare
-            (if row.now.is_bare then Some (self.old.rows + 1) else None) }
-        ensures written { OnOk result (out.new.items ≡ out.old.items
-            ++ verdict_row self.new.rows verdict (slice_get (map label_text labels.now) self.old.rows)) }
+            (if one.now.row.is_bare then Some (self.old.rows + 1) else None) }
     {
-        let label = labels.get(self.rows as usize);
         self.rows += 1;
-        if verdict.is_breach() {
+        if one.told().is_breach() {
             self.broken += 1;
         }
-        self.bare = self.bare.or(row.is_bare.then_some(self.rows));
-        write_verdict(out, self.rows, verdict, label)
+        self.bare = self.bare.or(one.row.is_bare.then_some(self.rows));
     }
 }

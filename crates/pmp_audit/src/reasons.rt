@@ -10,7 +10,7 @@ use crate::answer::write_answer;
 use crate::asked_count::asked_count;
 use crate::fault::AuditFault;
 use pmp_core::{Access, Decision};
-use pmp_lint::{Accepted, append_history, append_lint, append_why, why};
+use pmp_lint::{append_history, append_lint, append_why, why};
 use pmp_text::{EventLog, GrowingLog, NoMemory, Script, Sink, When, read_script};
 use std::alloc::Global;
 use std::io::Write;
@@ -86,7 +86,7 @@ fn append_reason<S: Sink>(
 pub fn lint<W: Write>(
     alloc: Global,
     script: &[u8],
-    accepted: &[Accepted],
+    accepted: &[u8],
     writer: &mut W,
 ) -> Result<usize, AuditFault>
     ensures ok { IfOk result
@@ -106,7 +106,7 @@ pub fn lint<W: Write>(
 pub fn append_findings<L: EventLog, S: Sink>(
     log: &mut L,
     script: &[u8],
-    accepted: &[Accepted],
+    accepted: &[u8],
     out: &mut S,
 ) -> Result<usize, AuditFault>
     ensures ok { IfOk result

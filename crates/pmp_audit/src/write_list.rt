@@ -9,7 +9,7 @@ ghost use Rattle.pmp_audit.specs.EventRows.{AreWritten};
 ghost use Rattle.pmp_audit.specs.WriteList.{all_rows, placed, placed_events, rows_text, has_fault, event_summary};
 ghost use Rattle.pmp_audit.specs.WriteList.{WritesSay, WritesRefuse, write_summary};
 
-use crate::accepted_reason::{AcceptedReason, has_other_reason};
+use crate::accepted_reason::has_other_reason;
 use crate::answer::write_answer;
 use crate::expectations::write_expectations;
 use crate::fault::AuditFault;
@@ -32,14 +32,15 @@ pub struct WriteSummary {
 
 /// Writes a row for each event of the script, in order: what it wrote, what the register read before and after, and why
 /// that isn't what was written. After these it writes a row for each expectation: what the register reads there, and
-/// whether that is as expected.
+/// whether that is as expected. `accepted` has reasons that don't count, each as `REASON` for every line or as
+/// `REASON:LINE` for this one, which commas separate; empty, it accepts none.
 ///
 /// The text is complete before its first byte is written, so every refusal but `Output` leaves the output untouched.
 #[inline(never)]
 pub fn writes<W: Write>(
     alloc: Global,
     script: &[u8],
-    accepted: &[AcceptedReason],
+    accepted: &[u8],
     writer: &mut W,
 ) -> Result<WriteSummary, AuditFault>
     ensures ok { IfOk result
@@ -58,7 +59,7 @@ pub fn writes<W: Write>(
 pub fn append_writes<L: EventLog, S: Sink>(
     log: &mut L,
     script: &[u8],
-    accepted: &[AcceptedReason],
+    accepted: &[u8],
     out: &mut S,
 ) -> Result<WriteSummary, AuditFault>
     ensures ok { IfOk result (IsAppended (WritesSay accepted.now script.now) (S.text out.old) (S.text out.new)) }
@@ -79,7 +80,7 @@ pub fn append_writes<L: EventLog, S: Sink>(
 fn write_script<S: Sink>(
     out: &mut S,
     script: &Script,
-    accepted: &[AcceptedReason],
+    accepted: &[u8],
 ) -> Result<WriteSummary, AllocError>
     requires { IsInLimits script.now.batches }
     ensures rows { IfOk result (λ _. S.text out.new ≡ S.text out.old ++ all_rows script.now) }
@@ -107,7 +108,7 @@ struct EventSummary {
 fn write_events<S: Sink>(
     out: &mut S,
     script: &Script,
-    accepted: &[AcceptedReason],
+    accepted: &[u8],
 ) -> Result<EventSummary, AllocError>
     requires { IsInLimits script.now.batches }
     ensures rows { IfOk result (λ _. S.text out.new ≡ S.text out.old
@@ -143,7 +144,7 @@ fn write_publication<S: Sink>(
     file: &mut RegFile,
     before: EventSummary,
     publication: Publication<'_>,
-    accepted: &[AcceptedReason],
+    accepted: &[u8],
 ) -> Result<EventSummary, AllocError>
     requires room { before.events + length publication.events.now < 2 ^ 64 }
     requires within { before.not_stored ≤ before.events }
@@ -170,13 +171,7 @@ fn write_publication<S: Sink>(
 
 /// Whether the event, which meets the one file and leaves the other, is a write that the register then doesn't read
 /// back, for a reason that isn't accepted.
-fn has_fault(
-    accepted: &[AcceptedReason],
-    line: u64,
-    file: &RegFile,
-    after: &RegFile,
-    event: Event,
-) -> bool
+fn has_fault(accepted: &[u8], line: u64, file: &RegFile, after: &RegFile, event: Event) -> bool
     ensures { after.now ≡ step file.now event → result ≡ has_fault accepted.now file.now line event }
 {
     match event {

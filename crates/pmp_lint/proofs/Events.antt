@@ -1,7 +1,7 @@
 -- The events of one publication more.
-use Rattle.std.proofs.Common.{◌≡◌, ◌∙◌, ap, sym, refl, ℕ, ◌+◌, ◌<◌, List, [], ◌∷◌, ◌++◌, fold, length, map, take}
+use Rattle.std.proofs.Common.{◌≡◌, ◌∙◌, ap, refl, ℕ, ◌+◌, ◌<◌, List, [], ◌∷◌, ◌++◌, fold, length, map, take}
 use Rattle.std.proofs.Common.{append-nil}
-use Rattle.std.specs.List.{filter, flat_map, range_with_len, slice_index_or}
+use Rattle.std.specs.List.{filter, slice_index_or}
 use Rattle.std.proofs.lemmas.List.{map-append, take_more}
 use Rattle.std.proofs.lemmas.List.Concat.{flat_map-append}
 use Rattle.std.proofs.lemmas.List.Elements.{filter-append}

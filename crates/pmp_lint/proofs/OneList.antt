@@ -1,5 +1,5 @@
 -- A script has one list of findings.
-use Rattle.std.proofs.Common.{◌≡◌, ◌∙◌, sym, refl, ap, ap₂, ℕ, zero, suc, ◌+◌, ◌<◌, ◌≤◌, List, [], ◌∷◌, ◌++◌, length, arith, inl, inr, rules}
+use Rattle.std.proofs.Common.{◌≡◌, ◌∙◌, sym, refl, ap, ap₂, ℕ, zero, suc, ◌+◌, ◌≤◌, List, [], ◌∷◌, ◌++◌, length, arith, inl, inr, rules}
 use Rattle.std.proofs.lemmas.Bool.{cases_lt}
 use Rattle.pmp_core.specs.declared.access.TheConstants.{ADDRESS_LIMIT}
 use Rattle.pmp_core.specs.RegisterFile.{RegisterFile}
@@ -13,7 +13,7 @@ use Rattle.pmp_lint.specs.EndState.{end_of}
 use Rattle.pmp_lint.specs.Events.{Happening, file_after, happenings_in}
 use Rattle.pmp_lint.specs.LateWrites.{late_writes}
 use Rattle.pmp_lint.specs.OpenBetween.{AreFoundBetween, AreOfEvents, AreOpenBetween, AreStretchesFrom, IsStretch, of_stretches}
-use Rattle.pmp_lint.specs.Report.{AreFindings, OneListOfFindingsLaw, of_locks, of_runs}
+use Rattle.pmp_lint.specs.Report.{OneListOfFindingsLaw, of_locks, of_runs}
 use Rattle.pmp_lint.proofs.Stretches.{opened_once}
 
 same_fields : (one other : Stretch) → one.first ≡ other.first → one.last ≡ other.last

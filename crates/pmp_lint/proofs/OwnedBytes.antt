@@ -1,5 +1,5 @@
 -- An entry owns no byte exactly where none of the runs of all bytes is its own.
-use Rattle.std.proofs.Common.{◌≡◌, ◌∙◌, sym, refl, ap, ℕ, ◌+◌, ◌-◌, ◌<◌, ◌≤◌, true, false, List, length, get_or, Option, Some, None}
+use Rattle.std.proofs.Common.{◌≡◌, ◌∙◌, sym, refl, ap, ℕ, ◌+◌, ◌-◌, ◌<◌, ◌≤◌, true, false, List, length, Option, Some, None}
 use Rattle.std.proofs.Common.{arith, eq-eqb, inl, inr, true≢false}
 use Rattle.std.proofs.lemmas.Bool.{cases_lt}
 use Rattle.std.proofs.lemmas.List.Elements.{All-from_get_or}
@@ -12,7 +12,7 @@ use Rattle.pmp_core.specs.RegisterFile.{RegisterFile}
 use Rattle.pmp_core.proofs.Decisions.{least_once}
 use Rattle.pmp_map.specs.declared.run.Run.{Run}
 use Rattle.pmp_map.specs.Runs.{AreRuns, IsInRun, map_run}
-use Rattle.pmp_map.proofs.Order.{run_among, start_at, start_below, start_past}
+use Rattle.pmp_map.proofs.Order.{run_among, start_below, start_past}
 use Rattle.pmp_lint.specs.EndState.{is_owner, owns_some}
 use Rattle.pmp_lint.specs.EndStateLaw.{OwnsNothingLaw}
 

@@ -6,13 +6,12 @@ use Rattle.std.proofs.lemmas.List.Concat.{flat_map-append}
 use Rattle.std.proofs.lemmas.List.Elements.{filter-append}
 use Rattle.std.proofs.lemmas.List.Sums.{sum_by-append}
 use Rattle.pmp_text.proofs.Prefixes.{starts_before}
-use Rattle.pmp_lint.specs.declared.accepted.Accepted.{Accepted}
 use Rattle.pmp_lint.specs.declared.finding.Finding.{Finding}
 use Rattle.pmp_lint.specs.Findings.{finding_row, is_told, told_count, told_rows}
 use Rattle.pmp_lint.specs.Telling.{HasTold, Telling, so_far, then_told}
 use Rattle.pmp_lint.proofs.Growing.{of_range_more}
 
-module _ (accepted : List Accepted) (one other : List Finding) where
+module _ (accepted : List ℕ) (one other : List Finding) where
   rows_append : told_rows accepted (one ++ other) ≡ told_rows accepted one ++ told_rows accepted other
   rows_append =
       ap (flat_map finding_row) (filter-append (is_told accepted) one other)

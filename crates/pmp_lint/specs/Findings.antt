@@ -1,13 +1,12 @@
 -- A finding, its row, and which findings are accepted.
-use Rattle.std.specs.Prelude.{ℕ, ◌+◌, ◌^◌, ◌-◌, ◌==◌, ◌&&◌, Bool, true, false, not, List, [], ◌∷◌, ◌++◌, Option, Some, None}
-use Rattle.std.specs.Prelude.{codes, count_by, decimal, drop, if◌then◌else◌, option_and_then, option_map, position, take}
+use Rattle.std.specs.Prelude.{ℕ, ◌^◌, ◌-◌, Bool, true, false, not, List, [], ◌∷◌, ◌++◌, Option, Some, None}
+use Rattle.std.specs.Prelude.{codes, count_by, decimal, if◌then◌else◌, is_some}
 use Rattle.std.specs.Fmt.{digits, format_spec, padded_integral}
-use Rattle.std.specs.List.{filter, flat_map, list_any}
+use Rattle.std.specs.List.{filter, flat_map}
 use Rattle.pmp_core.specs.declared.span.Span.{Span}
 use Rattle.pmp_text.specs.declared.policy.Modes.{Modes}
-use Rattle.pmp_text.specs.Numbers.{word_number}
 use Rattle.pmp_text.specs.Reports.{fields_after, optional_text}
-use Rattle.pmp_lint.specs.declared.accepted.Accepted.{Accepted}
+use Rattle.pmp_lint.specs.Accepting.{are_named, is_accepted}
 use Rattle.pmp_lint.specs.declared.finding.Finding.{Finding}
 use Rattle.pmp_lint.specs.declared.lint.Lint.{Lint}
 use Rattle.pmp_lint.specs.Lints.{lint_name, lint_named, lint_number}
@@ -56,43 +55,20 @@ finding_row finding =
     ++ fields_after (lint_name finding.lint ∷ decimal finding.line ∷ entry_text finding.entry
     ∷ bytes_text finding.bytes ∷ modes_text finding.modes ∷ [])
 
--- ---- which are accepted
+-- ---- which are told
 
-abbrev pub is_colon : (byte : ℕ) → Bool
-is_colon byte = byte == 58
-
--- a name, and the line that is given after a colon
-abbrev pub name_at : (word : List ℕ) → Option (List ℕ × Option ℕ)
-name_at word = elim (position is_colon word) [
-  | None ↦ Some (word, None)
-  | Some end ↦ option_map (λ line. (take end word, Some line)) (word_number (drop (end + 1) word))
-]
-
--- what a word accepts: a lint's name, at every line or at one
-abbrev pub accepted_said : (word : List ℕ) → Option Accepted
-accepted_said word =
-    option_and_then (λ (name, line). option_map (λ lint. record { lint = lint; line = line }) (lint_named name))
-    (name_at word)
-
-abbrev pub is_line : (accepted : Option ℕ) → (line : ℕ) → Bool
-is_line None line = true
-is_line (Some accepted) line = accepted == line
-
--- it has this name, and this line if one is given
-unfoldable pub accepts : Finding → Accepted → Bool
-accepts finding accepted =
-    lint_number accepted.lint == lint_number finding.lint && is_line accepted.line finding.line
-
-abbrev pub is_accepted : List Accepted → Finding → Bool
-is_accepted accepted finding = list_any (accepts finding) accepted
-
-abbrev pub is_told : List Accepted → Finding → Bool
-is_told accepted finding = not (is_accepted accepted finding)
+-- its lint's name isn't accepted at its line
+unfoldable pub is_told : (accepted : List ℕ) → Finding → Bool
+is_told accepted finding = not (is_accepted accepted (lint_name finding.lint) finding.line)
 
 -- a row for each finding that isn't accepted, in order
-abbrev pub told_rows : List Accepted → List Finding → List ℕ
+abbrev pub told_rows : (accepted : List ℕ) → List Finding → List ℕ
 told_rows accepted findings = flat_map finding_row (filter (is_told accepted) findings)
 
 -- the number of these rows
-abbrev pub told_count : List Accepted → List Finding → ℕ
+abbrev pub told_count : (accepted : List ℕ) → List Finding → ℕ
 told_count accepted findings = count_by (is_told accepted) findings
+
+-- each of the words says a lint's name
+abbrev pub are_lints : (words : List ℕ) → Bool
+are_lints words = are_named (λ name. is_some (lint_named name)) words

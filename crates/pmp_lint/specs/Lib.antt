@@ -1,5 +1,6 @@
 -- What a reader must trust: what is found, by which definition, its row, and which line of the script it names.
 pub mod Lints
+pub mod Accepting
 pub mod Findings
 pub mod Events
 pub mod EndState

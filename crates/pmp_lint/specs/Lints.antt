@@ -1,5 +1,5 @@
 -- The lints: number, name and remedy.
-use Rattle.std.specs.Prelude.{ℕ, List, Option, Some, None, codes, bytes_eq, if◌then◌else◌}
+use Rattle.std.specs.Prelude.{ℕ, List, [], ◌∷◌, Option, bytes_eq, codes, find}
 use Rattle.pmp_lint.specs.declared.lint.Lint.{Lint}
 use Rattle.pmp_lint.specs.declared.lint.Lint.TheVariants.{RlbLeftOn, MmwpOff, OpenBeforeLocked, NeverDecides}
 use Rattle.pmp_lint.specs.declared.lint.Lint.TheVariants.{WriteAndExecute, OpenBetween, LateWrite}
@@ -22,16 +22,13 @@ lint_name WriteAndExecute = codes "write-and-execute"
 lint_name OpenBetween = codes "open-between"
 lint_name LateWrite = codes "late-write"
 
+abbrev pub lints : List Lint
+lints =
+    RlbLeftOn ∷ MmwpOff ∷ OpenBeforeLocked ∷ NeverDecides ∷ WriteAndExecute ∷ OpenBetween ∷ LateWrite ∷ []
+
 -- by its name
 unfoldable pub lint_named : (word : List ℕ) → Option Lint
-lint_named word =
-    if bytes_eq word (codes "rlb-left-on") then Some RlbLeftOn
-    else (if bytes_eq word (codes "mmwp-off") then Some MmwpOff
-    else (if bytes_eq word (codes "open-before-locked") then Some OpenBeforeLocked
-    else (if bytes_eq word (codes "never-decides") then Some NeverDecides
-    else (if bytes_eq word (codes "write-and-execute") then Some WriteAndExecute
-    else (if bytes_eq word (codes "open-between") then Some OpenBetween
-    else (if bytes_eq word (codes "late-write") then Some LateWrite else None))))))
+lint_named word = find (λ lint. bytes_eq (lint_name lint) word) lints
 
 -- how to fix it
 abbrev pub remedy_text : Lint → List ℕ

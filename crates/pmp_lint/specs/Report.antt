@@ -7,7 +7,6 @@ use Rattle.pmp_text.specs.declared.script.ScriptFault.{ScriptFault}
 use Rattle.pmp_text.specs.Contents.{ScriptContents}
 use Rattle.pmp_text.specs.Outcomes.{out_of_memory}
 use Rattle.pmp_text.specs.Scripts.{script_meaning}
-use Rattle.pmp_lint.specs.declared.accepted.Accepted.{Accepted}
 use Rattle.pmp_lint.specs.declared.finding.Finding.{Finding}
 use Rattle.pmp_lint.specs.EndState.{end_of, mmwp_off, never_decides, of_entries, open_before_locked, rlb_left_on}
 use Rattle.pmp_lint.specs.Findings.{told_count, told_rows}
@@ -36,7 +35,7 @@ pub record AreFindings (script : ScriptContents) (findings : List Finding) : Typ
 
 -- the script has these contents, and a row was appended for each finding that isn't accepted, and for no other; `told`
 -- counts them
-pub record LintSays (script : List ℕ) (accepted : List Accepted) (before after : List ℕ) (told : ℕ) : Type 0 where
+pub record LintSays (script : List ℕ) (accepted : List ℕ) (before after : List ℕ) (told : ℕ) : Type 0 where
   pub contents : ScriptContents
   pub script_means : script_meaning script ≡ Ok contents
   pub findings : List Finding

@@ -1,17 +1,16 @@
 -- What is told of findings, one after the other.
 use Rattle.std.specs.Prelude.{◌≡◌, ◌+◌, ◌++◌, ℕ, List}
-use Rattle.pmp_lint.specs.declared.accepted.Accepted.{Accepted}
 use Rattle.pmp_lint.specs.declared.finding.Finding.{Finding}
 use Rattle.pmp_lint.specs.declared.told.Told.{Told}
 use Rattle.pmp_lint.specs.Findings.{told_count, told_rows}
 
 -- which findings aren't told, the text so far, and how many rows it has
 pub record Telling : Type 0 where
-  pub accepted : List Accepted
+  pub accepted : List ℕ
   pub text : List ℕ
   pub count : ℕ
 
-abbrev pub so_far : List Accepted → (text : List ℕ) → (count : ℕ) → Telling
+abbrev pub so_far : List ℕ → (text : List ℕ) → (count : ℕ) → Telling
 so_far accepted text count = record { accepted = accepted; text = text; count = count }
 
 abbrev pub telling : (text : List ℕ) → Told → Telling

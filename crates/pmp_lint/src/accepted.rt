@@ -1,22 +1,13 @@
-//! Findings that are accepted.
+//! Names that are accepted: of findings, or of reasons why writes aren't stored.
 
 ghost use Rattle.std.specs.Prelude.{◌≡◌, option_map, position};
-ghost use Rattle.pmp_lint.specs.Findings.{accepted_said, accepts, is_accepted, is_colon, is_line, is_told, name_at};
+ghost use Rattle.std.specs.List.{list_any};
+ghost use Rattle.pmp_lint.specs.Accepting.{is_accepted, is_colon, is_comma, is_meant, name_at, parts_of};
 
-use crate::finding::Finding;
-use crate::lint::Lint;
 use pmp_text::read_word_number;
 
-/// Findings that aren't reported: those of a lint, at every line or at one.
-#[derive(Clone, Copy, Debug, PartialEq, Eq)]
-pub struct Accepted {
-    pub lint: Lint,
-    /// The line, or none for every line.
-    pub line: Option<u64>,
-}
-
 /// A name, and the line at which it is meant.
-#[derive(Clone, Copy, Debug, PartialEq, Eq)]
+#[derive(Clone, Copy)]
 pub struct NameAt<'a> {
     pub name: &'a [u8],
     /// The line, or none for every line.
@@ -50,45 +41,18 @@ impl<'a> NameAt<'a> {
     }
 }
 
-impl Accepted {
-    /// Returns what a word accepts: `NAME` the findings of a lint, `NAME:LINE` those at this line.
-    pub fn read(word: &[u8]) -> Option<Accepted>
-        ensures { result ≡ accepted_said word.now }
-    {
-        let said = NameAt::read(word)?;
-        let lint = Lint::read(said.name)?;
-        Some(Accepted {
-            lint,
-            line: said.line,
-        })
-    }
-}
-
-/// Whether a line is the accepted one, if only one is.
-pub fn is_line(accepted: Option<u64>, line: u64) -> bool
-    ensures { result ≡ is_line accepted line }
+/// Whether a word says this name, at every line or at this one.
+fn is_meant(word: &[u8], name: &[u8], line: u64) -> bool
+    ensures { result ≡ is_meant name.now line word.now }
 {
-    accepted.is_none_or(|accepted| accepted == line)
+    NameAt::read(word).is_some_and(|it| it.name == name && it.line.is_none_or(|only| only == line))
 }
 
-impl Finding {
-    #[tactic(auto, unfolding(crate::specs::Findings::accepts))]
-    fn is_accepted_by(&self, accepted: Accepted) -> bool
-        ensures { result ≡ accepts self.now accepted }
-    {
-        accepted.lint.number() == self.lint.number() && is_line(accepted.line, self.line)
-    }
-
-    fn is_accepted(&self, accepted: &[Accepted]) -> bool
-        ensures { result ≡ is_accepted accepted.now self.now }
-    {
-        accepted.iter().any(|one| self.is_accepted_by(*one))
-    }
-
-    /// Whether none of these accepts the finding.
-    pub fn is_told(&self, accepted: &[Accepted]) -> bool
-        ensures { result ≡ is_told accepted.now self.now }
-    {
-        !self.is_accepted(accepted)
-    }
+/// Whether one of the words, which commas separate, says this name, at every line or at this one.
+pub fn is_accepted(words: &[u8], name: &[u8], line: u64) -> bool
+    ensures { result ≡ is_accepted words.now name.now line }
+{
+    words
+        .split(|byte| *byte == b',')
+        .any(|word| is_meant(word, name, line))
 }

@@ -21,7 +21,7 @@ mod told;
 mod trail;
 mod write_and_execute;
 
-pub use accepted::{Accepted, NameAt, is_line};
+pub use accepted::{NameAt, is_accepted};
 pub use answer_run::{AnswerRun, append_history};
 pub use because::{Because, why};
 pub use because_row::append_why;

@@ -1,7 +1,10 @@
 //! The lints: what a script is checked for.
 
 ghost use Rattle.std.specs.Prelude.{◌≡◌};
+ghost use Rattle.pmp_lint.specs.Findings.{are_lints};
 ghost use Rattle.pmp_lint.specs.Lints.{lint_named, lint_name, lint_number, remedy_text};
+
+use crate::accepted::NameAt;
 
 /// What a script is checked for. The names and the numbers never change.
 #[derive(Clone, Copy, Debug, PartialEq, Eq)]
@@ -89,24 +92,18 @@ impl Lint {
     pub fn read(word: &[u8]) -> Option<Lint>
         ensures { result ≡ lint_named word.now }
     {
-        if word == b"rlb-left-on".as_slice() {
-            return Some(Lint::RlbLeftOn);
-        }
-        if word == b"mmwp-off".as_slice() {
-            return Some(Lint::MmwpOff);
-        }
-        if word == b"open-before-locked".as_slice() {
-            return Some(Lint::OpenBeforeLocked);
-        }
-        if word == b"never-decides".as_slice() {
-            return Some(Lint::NeverDecides);
-        }
-        if word == b"write-and-execute".as_slice() {
-            return Some(Lint::WriteAndExecute);
-        }
-        if word == b"open-between".as_slice() {
-            return Some(Lint::OpenBetween);
-        }
-        (word == b"late-write".as_slice()).then_some(Lint::LateWrite)
+        Lint::ALL
+            .iter()
+            .copied()
+            .find(|lint| lint.name().as_bytes() == word)
+    }
+
+    /// Whether each of the words, which commas separate, is `NAME` or `NAME:LINE` with a lint's name.
+    pub fn are_named(words: &[u8]) -> bool
+        ensures { result ≡ are_lints words.now }
+    {
+        words.split(|byte| *byte == b',').all(|word| NameAt::read(word).is_some_and(|it| Lint::read(
+            it.name,
+        ).is_some()))
     }
 }

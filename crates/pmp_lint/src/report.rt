@@ -7,7 +7,6 @@ ghost use Rattle.pmp_lint.specs.EndState.{end_of, never_decides, of_entries, ope
 ghost use Rattle.pmp_lint.specs.Report.{AreFindings, LintRefuses, LintSays, of_locks, of_runs};
 ghost use Rattle.pmp_lint.specs.Telling.{HasTold, HasToldSome, so_far, telling};
 
-use crate::accepted::Accepted;
 use crate::end_state::Ended;
 use crate::late_writes::add_late_writes;
 use crate::open_between::add_open_between;
@@ -82,11 +81,7 @@ impl<'a> Ended<'a> {
 }
 
 /// Appends the rows of a script's findings that aren't accepted, or a part of them, and returns the number of rows.
-fn write_told<S: Sink>(
-    out: &mut S,
-    script: &Script<'_>,
-    accepted: &[Accepted],
-) -> Result<usize, NoMemory>
+fn write_told<S: Sink>(out: &mut S, script: &Script<'_>, accepted: &[u8]) -> Result<usize, NoMemory>
     ensures ok { IfOk result (λ told. HasToldSome (AreFindings script.now)
         (so_far accepted.now (S.text out.old) 0) (so_far accepted.now (S.text out.new) told)) }
     ensures err { OnErr result (StartsWith (S.text out.new) (S.text out.old)) }
@@ -110,14 +105,15 @@ fn write_told<S: Sink>(
 ///
 /// NUMBER and NAME are the lint's. LINE is that of the write that it is about, or 0. ENTRY is an entry's number, FIRST
 /// and LAST are the first and the last byte in fourteen hexadecimal digits, and MODES are letters of `M`, `S` and `U`,
-/// each of them empty if the finding is about none.
+/// each of them empty if the finding is about none. `accepted` has names of lints that aren't reported, each as `NAME`
+/// for every line or as `NAME:LINE` for this one, which commas separate; empty, it accepts none.
 ///
 /// The log keeps the script's events, and forgets what it had. If it is refused, by the script's own fault or `Memory`,
 /// nothing is appended.
 pub fn append_lint<L: EventLog, S: Sink>(
     log: &mut L,
     script: &[u8],
-    accepted: &[Accepted],
+    accepted: &[u8],
     out: &mut S,
 ) -> Result<usize, ScriptFault>
     ensures ok { IfOk result (LintSays script.now accepted.now (S.text out.old) (S.text out.new)) }

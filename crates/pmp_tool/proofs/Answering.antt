@@ -2,16 +2,20 @@
 use Rattle.std.proofs.Common.{◌≡◌, ◌∙◌, ◌∷◌, [], refl, subst, sym, ap, arith, length, ℕ, List, Option, Some, None, Result, Ok, Err, IfErr}
 use Rattle.std.proofs.lemmas.List.{append-nil}
 use Rattle.std.specs.Io.KnownBytes.{Appends, Keeps}
+use Rattle.std.specs.List.{AllZip}
+use Rattle.std.specs.Prelude.{zip}
 use Rattle.std.specs.Result.{IsErrAnd}
 use Rattle.pmp_audit.specs.Answers.{IsRefused}
 use Rattle.pmp_audit.specs.declared.fault.AuditFault.{AuditFault}
 use Rattle.pmp_audit.specs.declared.long_audit.TheConstants.{PIECE}
 use Rattle.pmp_audit.specs.LongAudit.{StopsLong}
-use Rattle.pmp_audit.specs.PolicyCheck.{PolicySays, verdicts_text}
+use Rattle.pmp_audit.specs.declared.policy_check.Breaches.{Breaches}
+use Rattle.pmp_audit.specs.PolicyTexts.{PolicySays, told_text}
 use Rattle.pmp_audit.specs.declared.policy_check.PolicySummary.{PolicySummary}
 use Rattle.pmp_audit.specs.declared.policy_check.steps.Pace.{Pace}
 use Rattle.pmp_text.specs.Labels.{LabelText, policy_labels}
 use Rattle.pmp_text.specs.declared.lines.verdict.Verdict.{Verdict}
+use Rattle.pmp_text.specs.declared.policy.PolicyRow.{PolicyRow}
 use Rattle.pmp_tool.specs.declared.failure.Failure.{Failure}
 use Rattle.pmp_tool.specs.declared.outcome.Outcome.{Outcome}
 use Rattle.pmp_tool.specs.declared.request.Request.{Request}
@@ -44,11 +48,14 @@ pub bytes_given : (known remaining : Option (List ℕ)) (bytes : List ℕ) → G
 bytes_given None remaining bytes gives are = tt
 bytes_given (Some those) remaining bytes gives are = subst (λ left. AreBytesOf left bytes) gives are
 
-nothing_said : (labels : List LabelText) (verdicts : List Verdict) → length verdicts ≡ 0
-    → verdicts_text labels verdicts ≡ []
-unfolding verdicts_text
-nothing_said labels [] none = refl
-nothing_said labels (verdict ∷ more) none = absurd (omega (arith, none))
+nothing_said : {Is : PolicyRow × Verdict → List Verdict → Type 0} (labels : List LabelText) (rows : List PolicyRow)
+    (verdicts : List Verdict) (told : List (List Verdict)) → length verdicts ≡ 0 → AllZip Is (zip rows verdicts) told
+    → told_text labels told ≡ []
+unfolding told_text
+nothing_said labels rows verdicts [] none are = refl
+nothing_said labels [] [] (some ∷ told) none are = absurd are
+nothing_said labels (row ∷ rows) [] (some ∷ told) none are = absurd are
+nothing_said labels rows (verdict ∷ more) (some ∷ told) none are = absurd (omega (arith, none))
 
 nothing_written : (before after : Option (List ℕ)) → Appends before after [] → Keeps before after
 nothing_written None after appends = tt
@@ -56,10 +63,11 @@ nothing_written (Some old) None appends = absurd appends
 nothing_written (Some old) (Some new) appends = appends ∙ append-nil old
 
 -- for a policy without rows nothing is written
-pub nothing_judged : {pace : Pace} {script policy : List ℕ} (summary : PolicySummary) (text : List ℕ)
-    → PolicySays pace script policy summary text → summary.rows ≡ 0
+pub nothing_judged : {breaches : Breaches} {pace : Pace} {script policy : List ℕ} (summary : PolicySummary) (text : List ℕ)
+    → PolicySays breaches pace script policy summary text → summary.rows ≡ 0
     → (before after : Option (List ℕ)) → Appends before after text → Keeps before after
 nothing_judged {policy = policy} summary text says none before after written =
     let count : length says.verdicts ≡ 0 = sym (ap (λ (summary : PolicySummary). summary.rows) says.counted) ∙ none in
     nothing_written before after
-    (rw (says.text_is, nothing_said (policy_labels policy) says.verdicts count) at written)
+    (rw (says.text_is, nothing_said (policy_labels policy) says.rows says.verdicts says.told count says.told_are)
+    at written)

@@ -44,6 +44,7 @@ rule_in argument.Explain = flag_rule (codes "explain")
 rule_in argument.Long = flag_rule (codes "long")
 rule_in argument.EachWrite = flag_rule (codes "each-write")
 rule_in argument.Strict = flag_rule (codes "strict")
+rule_in argument.AllBreaches = flag_rule (codes "all")
 -- `--script`, which has another place than the script's path
 rule_in argument.AsScript = record (flag_rule (codes "as-script")) { long = Some (codes "script") }
 rule_in argument.After = option_rule (codes "after")
@@ -118,7 +119,7 @@ arguments_of Audit =
     argument.Script ∷ argument.Explain ∷ argument.Trace ∷ argument.Checkers ∷ argument.Long ∷ argument.Jobs
     ∷ argument.FirstRow ∷ argument.Names ∷ []
 arguments_of Policy =
-    argument.Script ∷ argument.Explain ∷ argument.Policy ∷ argument.EachWrite ∷ argument.Strict
+    argument.Script ∷ argument.Explain ∷ argument.Policy ∷ argument.EachWrite ∷ argument.AllBreaches ∷ argument.Strict
     ∷ argument.Draft ∷ argument.Names ∷ argument.AsFormat ∷ []
 arguments_of Dump = argument.Script ∷ argument.Explain ∷ argument.After ∷ argument.AsScript ∷ []
 arguments_of Map = argument.Script ∷ argument.Explain ∷ argument.After ∷ argument.Names ∷ argument.AsFormat ∷ []

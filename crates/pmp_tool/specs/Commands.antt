@@ -1,5 +1,6 @@
 -- What the matches of the command line ask for.
-use Rattle.std.specs.Prelude.{Bool, true, ℕ, ◌-◌, ◌^◌, List, ◌&&◌, ◌||◌, Option, Some, None, unwrap_or, ok_or, option_map, Result, Ok, Err}
+use Rattle.std.specs.Prelude.{Bool, true, ℕ, ◌-◌, ◌^◌, List, [], ◌&&◌, ◌||◌, Option, Some, None, Result, Ok, Err}
+use Rattle.std.specs.Prelude.{ok_or, option_map, unwrap_or}
 use Rattle.std.specs.Prelude.{if◌then◌else◌, codes, find, is_some, option_and_then}
 use Rattle.std.specs.Str.{bytes_eq}
 use Rattle.clap.specs.Words.{Row, Text}
@@ -13,16 +14,16 @@ use Rattle.pmp_core.specs.declared.hart.Profile.{Profile}
 use Rattle.pmp_import.specs.declared.format.Format.{Format}
 use Rattle.pmp_import.specs.declared.options.Options.{Options}
 use Rattle.pmp_import.specs.Formats.{format_named}
-use Rattle.pmp_lint.specs.Findings.{accepted_said}
+use Rattle.pmp_lint.specs.Findings.{are_lints}
 use Rattle.pmp_names.specs.AddressNames.{Named}
 use Rattle.pmp_names.specs.NamedAddresses.{address_said}
-use Rattle.pmp_audit.specs.AcceptedReasons.{accepted_reason_said}
-use Rattle.pmp_audit.specs.declared.accepted_reason.AcceptedReason.{AcceptedReason}
-use Rattle.pmp_lint.specs.declared.accepted.Accepted.{Accepted}
+use Rattle.pmp_audit.specs.AcceptedReasons.{are_reasons}
 use Rattle.pmp_text.specs.AccessWords.{kind_named, mode_named}
 use Rattle.pmp_text.specs.declared.moments.When.{When}
 use Rattle.pmp_text.specs.Moments.{when_said}
 use Rattle.pmp_text.specs.Numbers.{word_number}
+use Rattle.pmp_audit.specs.declared.policy_check.Breaches.{Breaches}
+use Rattle.pmp_audit.specs.declared.policy_check.Breaches.TheVariants.{All, First}
 use Rattle.pmp_audit.specs.declared.policy_check.steps.Pace.{Pace}
 use Rattle.pmp_audit.specs.declared.policy_check.steps.Pace.TheVariants.{Events, Publications}
 use Rattle.pmp_audit.specs.declared.script_diff.AskedChanges.{AskedChanges}
@@ -65,10 +66,10 @@ pub data Task : Type 0 where
   Why : AccessTask → (after : Option When) → (is_bare : Bool) → Task
   Audit : (trace : Text) (checkers : Option ℕ) → Task
   LongAudit : (trace : Text) (jobs : Option ℕ) (first : ℕ) → Task
-  Policy : (policy : Text) → Pace → (is_strict : Bool) → Task
+  Policy : (policy : Text) → Pace → Breaches → (is_strict : Bool) → Task
   Show : View → (after : Option When) → Task
-  Writes : (accepted : Option AcceptedReason) → Task
-  Lint : (accepted : Option Accepted) → Task
+  Writes : (accepted : Text) → Task
+  Lint : (accepted : Text) → Task
   Diff : (new : Text) (old_after new_after : Option When) → AskedChanges → Task
   Harts : (has_locks : Bool) → Task
   Import : (log : Text) → Format → Options → (folder : Option Text) → Task
@@ -84,10 +85,10 @@ task_of (request.Check check) = Check (access_task check.access) check.after che
 task_of (request.Why why) = Why (access_task why.access) why.after why.is_bare
 task_of (request.Audit audit) = Audit audit.trace.now audit.checkers
 task_of (request.LongAudit audit) = LongAudit audit.trace.now audit.jobs audit.first
-task_of (request.Policy policy) = Policy policy.path.now policy.pace policy.is_strict
+task_of (request.Policy policy) = Policy policy.path.now policy.pace policy.breaches policy.is_strict
 task_of (request.Show view after) = Show view after
-task_of (request.Writes accepted) = Writes accepted
-task_of (request.Lint accepted) = Lint accepted
+task_of (request.Writes accepted) = Writes accepted.now
+task_of (request.Lint accepted) = Lint accepted.now
 task_of (request.Diff diff) = Diff diff.new.now diff.old_after diff.new_after diff.changes
 task_of (request.Harts has_locks) = Harts has_locks
 task_of (request.Import log) = Import log.log.now log.format log.options (option_map (λ path. path.now) log.folder)
@@ -170,17 +171,18 @@ audit_in rows =
     and_then (second_in argument.Trace rows) (λ trace.
     if is_set argument.Long rows then long_audit_in trace rows else whole_audit_in trace rows)
 
--- a policy asks after each publication, or after each event too
+-- a policy asks after each publication, or after each event too, and tells of the first breach of a row, or of all
 abbrev pub policy_in : List Row → Result Task FaultLine
 policy_in rows =
     and_then (second_in argument.Policy rows) (λ policy.
-    Ok (Policy policy (if is_set argument.EachWrite rows then Events else Publications) (is_set argument.Strict rows)))
+    Ok (Policy policy (if is_set argument.EachWrite rows then Events else Publications)
+    (if is_set argument.AllBreaches rows then All else First) (is_set argument.Strict rows)))
 
 -- a policy is written, and none is judged
 abbrev pub policy_from_in : List Row → Result Task FaultLine
 policy_from_in rows =
-    if is_used argument.Policy rows || (is_set argument.EachWrite rows || (is_set argument.Strict rows
-    || (is_used argument.Names rows || is_used argument.AsFormat rows)))
+    if is_used argument.Policy rows || (is_set argument.EachWrite rows || (is_set argument.AllBreaches rows
+    || (is_set argument.Strict rows || (is_used argument.Names rows || is_used argument.AsFormat rows))))
     then Err (of_no_word BadWord) else Ok PolicyFrom
 
 -- all publications are done where the option isn't used
@@ -256,6 +258,19 @@ plan_in rows = if is_set argument.Of rows then plan_of_in rows else and_then (fr
     and_then (hart_in rows) (λ hart.
     Ok (Plan from hart (aim_in rows) (if is_set argument.AsArray rows then Array else Script))))
 
+-- the accepted names, all of which have to be known; none where the option isn't used
+abbrev pub accepted_in : (are_known : Text → Bool) → Argument → List Row → Result Text FaultLine
+accepted_in are_known argument rows = elim (word_in argument rows) [
+  | None ↦ Ok []
+  | Some accepted ↦ if are_known accepted then Ok accepted else Err (bad_word argument)
+]
+
+abbrev pub writes_in : List Row → Result Task FaultLine
+writes_in rows = and_then (accepted_in are_reasons argument.AcceptReason rows) (λ accepted. Ok (Writes accepted))
+
+abbrev pub lint_in : List Row → Result Task FaultLine
+lint_in rows = and_then (accepted_in are_lints argument.Accept rows) (λ accepted. Ok (Lint accepted))
+
 -- what a command's matches ask for, where addresses have names
 abbrev pub task_in : List Named → CommandName → List Row → Result Task FaultLine
 task_in names name.Check rows = check_in names rows
@@ -266,9 +281,8 @@ task_in names name.Dump rows = show_in (if is_set argument.AsScript rows then As
 task_in names name.Map rows = show_in Runs rows
 task_in names name.Picture rows = show_in Picture rows
 task_in names name.Entries rows = show_in Entries rows
-task_in names name.Writes rows =
-    and_then (asked_in accepted_reason_said argument.AcceptReason rows) (λ accepted. Ok (Writes accepted))
-task_in names name.Lint rows = and_then (asked_in accepted_said argument.Accept rows) (λ accepted. Ok (Lint accepted))
+task_in names name.Writes rows = writes_in rows
+task_in names name.Lint rows = lint_in rows
 task_in names name.Diff rows = diff_in rows
 task_in names name.Harts rows = Ok (Harts (is_set argument.Locks rows))
 task_in names name.Import rows = import_in rows

@@ -3,7 +3,6 @@ use Rattle.std.specs.Prelude.{◌≡◌, ℕ, List, length, Bool, ◌&&◌, nat_
 use Rattle.std.specs.Prelude.{false, ◌<◌, ⊤, option_map}
 use Rattle.std.specs.Prelude.{codes, bytes_eq, if◌then◌else◌}
 use Rattle.std.specs.Io.KnownBytes.{Appends, Keeps}
-use Rattle.std.specs.Option.{option_to_list}
 use Rattle.clap.specs.Words.{Text}
 use Rattle.pmp_import.specs.declared.fault.ImportFault.{ImportFault}
 use Rattle.pmp_import.specs.declared.given.Given.{Given}
@@ -35,7 +34,8 @@ use Rattle.pmp_audit.specs.declared.long_audit.TheConstants.{PIECE}
 use Rattle.pmp_audit.specs.LongAudit.{LongAuditSays, StopsLong}
 use Rattle.pmp_audit.specs.Reasons.{FindingsSay, ReasonsSay}
 use Rattle.pmp_audit.specs.PolicyDraft.{DraftRefuses, DraftSays}
-use Rattle.pmp_audit.specs.PolicyCheck.{PolicyRefuses, PolicySays}
+use Rattle.pmp_audit.specs.PolicyCheck.{PolicyRefuses}
+use Rattle.pmp_audit.specs.PolicyTexts.{PolicySays}
 use Rattle.pmp_audit.specs.SharedAudit.{SharedAuditRefuses}
 use Rattle.pmp_audit.specs.TraceAudit.{AuditRefuses, AuditSays}
 use Rattle.pmp_audit.specs.View.{ViewSays}
@@ -145,12 +145,12 @@ RequestSays paths script (LongAudit audit) (Audited summary) text =
     (trace : List ℕ) × AreBytesOf (paths.traces audit.trace.now) trace × LongAuditSays script audit.first trace summary text
 RequestSays paths script (Policy asked) (Judged summary) text =
     (policy : List ℕ) × AreBytesOf (paths.traces asked.path.now) policy
-    × PolicySays asked.pace script policy summary text × HasRows asked.is_strict summary
+    × PolicySays asked.breaches asked.pace script policy summary text × HasRows asked.is_strict summary
 RequestSays paths script (Show view after) Listed text = ViewSays view script after tt text
 RequestSays paths script (Writes accepted) (Replayed summary) text =
-    WritesSay (option_to_list accepted) script summary text
+    WritesSay accepted.now script summary text
 RequestSays paths script (Lint accepted) (Found told) text =
-    FindingsSay script (option_to_list accepted) told text
+    FindingsSay script accepted.now told text
 RequestSays paths script (Diff diff) (Compared rows) text =
     (new : List ℕ) × AreBytesOf (paths.scripts diff.new.now) new
     × DiffSays script diff.old_after new diff.new_after diff.changes rows text
@@ -218,10 +218,11 @@ module _ (before after : Option (List ℕ)) where
 
   -- a policy is refused, or has no row and must have one
   pub data PolicyFails (asked : AskedPolicy) (script policy : List ℕ) : Failure → Type 0 where
-    unjudged : (failure : Failure) → Declines (PolicySays asked.pace script policy) (PolicyRefuses script policy) failure
+    unjudged : (failure : Failure)
+        → Declines (PolicySays asked.breaches asked.pace script policy) (PolicyRefuses script policy) failure
         → PolicyFails asked script policy failure
     is_empty : (summary : PolicySummary) (text : List ℕ) → asked.is_strict ≡ true
-        → PolicySays asked.pace script policy summary text → summary.rows ≡ 0 → Keeps before after
+        → PolicySays asked.breaches asked.pace script policy summary text → summary.rows ≡ 0 → Keeps before after
         → PolicyFails asked script policy (refused NoRows)
 
   -- these registers can't be had, or what follows fails
@@ -255,8 +256,8 @@ module _ (before after : Option (List ℕ)) where
     RequestFails (Policy asked) = TraceFails (paths.traces asked.path.now) (PolicyFails asked script)
     RequestFails (Show view when) =
         MomentFails script argument.After when (Declines (ViewSays view script when) (FileRefuses script when))
-    RequestFails (Writes accepted) = Declines (WritesSay (option_to_list accepted) script) (WritesRefuse script)
-    RequestFails (Lint accepted) = Declines (FindingsSay script (option_to_list accepted)) (WritesRefuse script)
+    RequestFails (Writes accepted) = Declines (WritesSay accepted.now script) (WritesRefuse script)
+    RequestFails (Lint accepted) = Declines (FindingsSay script accepted.now) (WritesRefuse script)
     RequestFails (Diff diff) =
         MomentFails script argument.OldAfter diff.old_after
         (ScriptFails (paths.scripts diff.new.now) (Some New)

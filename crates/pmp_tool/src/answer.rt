@@ -219,7 +219,7 @@ fn answer_policy<I: Inputs, O: Write>(
     ensures paths { I.paths inputs.new ≡ I.paths inputs.old }
 {
     let policy = read_trace(alloc, naming, inputs, asked.path)?;
-    let summary = check_policy(alloc, asked.pace, script, &policy, out)?;
+    let summary = check_policy(alloc, asked.pace, asked.breaches, script, &policy, out)?;
     if asked.is_strict && summary.rows == 0 {
         return Err(Failure::from(Refusal::NoRows));
     }

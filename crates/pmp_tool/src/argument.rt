@@ -29,6 +29,7 @@ pub enum Argument {
     Long,
     EachWrite,
     Strict,
+    AllBreaches,
     AsScript,
     After,
     OldAfter,
@@ -90,6 +91,7 @@ impl Argument {
             Long => "long",
             EachWrite => "each-write",
             Strict => "strict",
+            AllBreaches => "all",
             AsScript => "as-script",
             After => "after",
             OldAfter => "old-after",
@@ -137,7 +139,7 @@ impl Argument {
             Kind => "KIND",
             Start => "START",
             Length => "LENGTH",
-            Explain | Long | EachWrite | Strict | AsScript | Locks | Bursts => "",
+            Explain | Long | EachWrite | Strict | AllBreaches | AsScript | Locks | Bursts => "",
             Mml | Mmwp | Rlb | AsArray | Of | Keep | WhileM | Draft => "",
             After | OldAfter | FirstRow | Jobs | Hart | Xlen | Entries | AddressBits => "N",
             Grain => "BYTES",
@@ -174,6 +176,7 @@ impl Argument {
             Long => help::LONG,
             EachWrite => help::EACH_WRITE,
             Strict => help::STRICT,
+            AllBreaches => help::ALL_BREACHES,
             AsScript => help::AS_SCRIPT,
             After => help::AFTER,
             OldAfter => help::OLD_AFTER,
@@ -225,6 +228,7 @@ impl Argument {
             | Long
             | EachWrite
             | Strict
+            | AllBreaches
             | Locks
             | Bursts
             | Mml

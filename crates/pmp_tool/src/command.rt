@@ -3,11 +3,11 @@
 ghost use Rattle.std.specs.Prelude.{◌≡◌, map, option_map};
 ghost use Rattle.clap.specs.Words.{found_of, rows_of, subcommand_rows_of};
 ghost use Rattle.pmp_tool.specs.Commands.{access_in, access_task, asked, asked_of, audit_in, check_in, command_named};
-ghost use Rattle.pmp_tool.specs.Commands.{diff_in, from_in, long_audit_in};
+ghost use Rattle.pmp_tool.specs.Commands.{diff_in, from_in, lint_in, long_audit_in};
 ghost use Rattle.pmp_names.specs.NameLists.{named};
 ghost use Rattle.pmp_tool.specs.Commands.{names_path_in, path_in, plan_in, plan_of_in, policy_in, reads_stdin, second_in};
 ghost use Rattle.pmp_tool.specs.Commands.{policy_from_in, show_in, start_in, task_in};
-ghost use Rattle.pmp_tool.specs.Commands.{task_of, whole_audit_in, why_in};
+ghost use Rattle.pmp_tool.specs.Commands.{task_of, whole_audit_in, why_in, writes_in};
 ghost use Rattle.pmp_tool.specs.Words.{result_map};
 
 use crate::argument::Argument;
@@ -20,8 +20,9 @@ use crate::jobs::JOBS;
 use crate::request::{Audit, Check, Diff, LongAudit, Plan, Policy, Request, Why};
 use crate::word::{asked, count, is_bare_word, is_set, is_stdin, is_used, needed, word};
 use clap::ArgMatches;
-use pmp_audit::{AskedChanges, Pace, View};
+use pmp_audit::{AskedChanges, Breaches, Pace, View, are_reasons};
 use pmp_core::Access;
+use pmp_lint::Lint;
 use pmp_names::{AddressName, read_address};
 use pmp_plan::Form;
 use pmp_share::CHECKERS;
@@ -110,8 +111,8 @@ fn read_request<'a>(
         CommandName::Map => read_show(View::Runs, words),
         CommandName::Picture => read_show(View::Picture, words),
         CommandName::Entries => read_show(View::Entries, words),
-        CommandName::Writes => Ok(Request::Writes(asked(words, Argument::AcceptReason)?)),
-        CommandName::Lint => Ok(Request::Lint(asked(words, Argument::Accept)?)),
+        CommandName::Writes => read_writes(words),
+        CommandName::Lint => read_lint(words),
         CommandName::Diff => read_diff(words),
         CommandName::Harts => Ok(Request::Harts(is_set(words, Argument::Locks))),
         CommandName::Import => read_import(words),
@@ -226,9 +227,15 @@ fn read_policy<'a>(words: &ArgMatches<'a>) -> Result<Request<'a>, FaultLine>
     } else {
         Pace::Publications
     };
+    let breaches = if is_set(words, Argument::AllBreaches) {
+        Breaches::All
+    } else {
+        Breaches::First
+    };
     Ok(Request::Policy(Policy {
         path,
         pace,
+        breaches,
         is_strict: is_set(words, Argument::Strict),
     }))
 }
@@ -239,6 +246,7 @@ fn read_policy_from<'a>(words: &ArgMatches) -> Result<Request<'a>, FaultLine>
 {
     if is_used(words, Argument::Policy)
         || is_set(words, Argument::EachWrite)
+        || is_set(words, Argument::AllBreaches)
         || is_set(words, Argument::Strict)
         || is_used(words, Argument::Names)
         || is_used(words, Argument::AsFormat)
@@ -253,6 +261,28 @@ fn read_show<'a>(view: View, words: &ArgMatches) -> Result<Request<'a>, FaultLin
     ensures { result_map task_of result ≡ show_in view (rows_of (found_of words.now)) }
 {
     Ok(Request::Show(view, asked(words, Argument::After)?))
+}
+
+/// Returns the effects of writes. Each accepted reason has to be one that rows write.
+fn read_writes<'a>(words: &ArgMatches<'a>) -> Result<Request<'a>, FaultLine>
+    ensures { result_map task_of result ≡ writes_in (rows_of (found_of words.now)) }
+{
+    match word(words, Argument::AcceptReason) {
+        None => Ok(Request::Writes("")),
+        Some(accepted) if are_reasons(accepted.as_bytes()) => Ok(Request::Writes(accepted)),
+        Some(_) => Err(FaultLine::of_word(Argument::AcceptReason)),
+    }
+}
+
+/// Returns the findings. Each accepted name has to be a finding's.
+fn read_lint<'a>(words: &ArgMatches<'a>) -> Result<Request<'a>, FaultLine>
+    ensures { result_map task_of result ≡ lint_in (rows_of (found_of words.now)) }
+{
+    match word(words, Argument::Accept) {
+        None => Ok(Request::Lint("")),
+        Some(accepted) if Lint::are_named(accepted.as_bytes()) => Ok(Request::Lint(accepted)),
+        Some(_) => Err(FaultLine::of_word(Argument::Accept)),
+    }
 }
 
 fn read_diff<'a>(words: &ArgMatches<'a>) -> Result<Request<'a>, FaultLine>

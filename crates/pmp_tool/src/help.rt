@@ -60,10 +60,10 @@ pub const ONLY: &str =
 pub const LOCKS: &str = "Also a row for each longest range of bytes that the two lock differently";
 
 pub const ACCEPT: &str =
-    "Leaves out findings named FINDING; with FINDING:LINE, those of that line alone";
+    "Leaves out findings named FINDING; with FINDING:LINE, those of that line alone; commas separate several";
 
 pub const ACCEPT_REASON: &str =
-    "Takes no notice of REASON in the exit status; with REASON:LINE, at that line alone";
+    "Takes no notice of REASON in the exit status; with REASON:LINE, at that line alone; commas separate several";
 
 pub const DRAFT: &str =
     "Writes a policy of all that is closed in the end; goes with no policy, and no other option except --explain";
@@ -84,6 +84,9 @@ pub const POLICY_PATH: &str =
 pub const EACH_WRITE: &str =
     "Also checks after each write and reset that follows publication FROM, as a hart makes them one by one; DONE then \
     counts events";
+
+pub const ALL_BREACHES: &str =
+    "Writes a row for each breach of a policy row, not for the first one alone";
 
 pub const STRICT: &str =
     "Refuses a policy without rows; without it, such a policy holds, and a note says so";

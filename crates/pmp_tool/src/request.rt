@@ -5,10 +5,9 @@ ghost use Rattle.pmp_core.specs.Hart.{hart_fault};
 ghost use Rattle.pmp_share.specs.declared.opening.TheConstants.{CHECKERS};
 
 use crate::expected::Expected;
-use pmp_audit::{AcceptedReason, AskedChanges, Pace, View};
+use pmp_audit::{AskedChanges, Breaches, Pace, View};
 use pmp_core::{Access, Profile};
 use pmp_import::{Format, Options};
-use pmp_lint::Accepted;
 use pmp_plan::{Aim, Form};
 use pmp_share::CHECKERS;
 use pmp_text::When;
@@ -62,6 +61,7 @@ pub struct Policy<'a> {
     pub path: &'a str,
     /// How often it is checked.
     pub pace: Pace,
+    pub breaches: Breaches,
     /// Whether it must have a row.
     pub is_strict: bool,
 }
@@ -112,10 +112,10 @@ pub enum Request<'a> {
     Policy(Policy<'a>),
     /// The view, and when, unless after all publications.
     Show(View, Option<When>),
-    /// The effect of each write, and the reason that is accepted.
-    Writes(Option<AcceptedReason>),
-    /// The findings in it, and which of them are accepted.
-    Lint(Option<Accepted>),
+    /// The effect of each write, and the reasons that are accepted, separated by commas.
+    Writes(&'a str),
+    /// The findings in it, and the names of those that are accepted, separated by commas.
+    Lint(&'a str),
     Diff(Diff<'a>),
     /// The differences between the harts of a folder, and whether those of their locks too.
     Harts(bool),

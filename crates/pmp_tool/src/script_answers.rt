@@ -8,8 +8,7 @@ ghost use Rattle.pmp_tool.specs.declared.request.Request.TheVariants as request;
 
 use crate::failure::Failure;
 use crate::outcome::Outcome;
-use pmp_audit::{AcceptedReason, lint, policy_from, writes};
-use pmp_lint::Accepted;
+use pmp_audit::{lint, policy_from, writes};
 use std::alloc::Global;
 use std::io::Write;
 
@@ -17,7 +16,7 @@ use std::io::Write;
 pub fn answer_writes<O: Write>(
     alloc: Global,
     script: &[u8],
-    accepted: Option<AcceptedReason>,
+    accepted: &str,
     out: &mut O,
 ) -> Result<Outcome, Failure>
     ensures ok { (paths : Paths) → IfOk result (IsWritten (RequestSays paths script.now (request.Writes accepted))
@@ -25,10 +24,7 @@ pub fn answer_writes<O: Write>(
     ensures err { (paths : Paths) → IfErr result (RequestFails (O.contents out.old) (O.contents out.new) paths
         script.now (request.Writes accepted)) }
 {
-    let told = match accepted {
-        Some(reason) => writes(alloc, script, &[reason], out)?,
-        None => writes(alloc, script, &[], out)?,
-    };
+    let told = writes(alloc, script, accepted.as_bytes(), out)?;
     Ok(Outcome::Replayed(told))
 }
 
@@ -36,7 +32,7 @@ pub fn answer_writes<O: Write>(
 pub fn answer_lint<O: Write>(
     alloc: Global,
     script: &[u8],
-    accepted: Option<Accepted>,
+    accepted: &str,
     out: &mut O,
 ) -> Result<Outcome, Failure>
     ensures ok { (paths : Paths) → IfOk result (IsWritten (RequestSays paths script.now (request.Lint accepted))
@@ -44,10 +40,7 @@ pub fn answer_lint<O: Write>(
     ensures err { (paths : Paths) → IfErr result (RequestFails (O.contents out.old) (O.contents out.new) paths
         script.now (request.Lint accepted)) }
 {
-    let told = match accepted {
-        Some(finding) => lint(alloc, script, &[finding], out)?,
-        None => lint(alloc, script, &[], out)?,
-    };
+    let told = lint(alloc, script, accepted.as_bytes(), out)?;
     Ok(Outcome::Found(told as u64))
 }
 

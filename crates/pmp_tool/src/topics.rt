@@ -161,7 +161,10 @@ for each row of the trace, in order.
 
 `pmp policy` writes a row for each row of the policy, in order: `N,holds,,,,`,
 or `N,broken,DONE,FIRST,LAST,OWNER` with only its first breach, by time, then
-address, or `N,unmet,,,,`; then, if the header has them, `,NAME,COMMENT`.
+address, or `N,unmet,,,,`; then, if the header has them, `,NAME,COMMENT`. With
+`--all` a broken row has a row for each breach, where it begins: for each run of
+bytes with one owner that breaks it, unless it broke it after one publication
+(or event) less too.
 
   1,broken,0,00000000000000,0000000000000f,-
 
@@ -202,7 +205,7 @@ each event of the script, in order, and then for each `expect`, by line.
 `pmp lint` writes `NUMBER,NAME,LINE,ENTRY,FIRST,LAST,MODES` for what an
 experienced reader would remark on, by number and then by entry, address or
 event. `--accept NAME` leaves out findings of NAME, `--accept NAME:LINE` those
-at LINE.
+at LINE, and commas separate several.
 
   2,mmwp-off,2,,,,
 
@@ -450,7 +453,10 @@ a later boot may break.
 
 `pmp policy` writes a row for each row of the policy, in order: `N,holds,,,,`,
 or `N,broken,DONE,FIRST,LAST,OWNER` with only its first breach, by time, then
-address, or `N,unmet,,,,`; then, if the header has them, `,NAME,COMMENT`.
+address, or `N,unmet,,,,`; then, if the header has them, `,NAME,COMMENT`. With
+`--all` a broken row has a row for each breach, where it begins: for each run of
+bytes with one owner that breaks it, unless it broke it after one publication
+(or event) less too.
   N              the row's number, from 1
   DONE           after how many publications it is broken; if only the locks of
                  held are missing, the last of those that the row asks about.
@@ -642,7 +648,7 @@ each event of the script, in order, and then for each `expect`, by line.
 The status is 1 if a write isn't `stored` or an `expect` `differs`. With
 `--accept REASON` writes that have only this reason don't count, with `--accept
 differs` no `expect` does, and with `:LINE` behind the word only that line
-doesn't. No row is left out.
+doesn't. Commas separate several, as `bits:7,absent`. No row is left out.
   absent    the value isn't 0 for an entry, or for mseccfg or mseccfgh, that the
             hart doesn't have
   bits      the value has bits that the register doesn't have: of an address 63
@@ -684,7 +690,7 @@ below 2^64. Without `0x` it is decimal.
 `pmp lint` writes `NUMBER,NAME,LINE,ENTRY,FIRST,LAST,MODES` for what an
 experienced reader would remark on, by number and then by entry, address or
 event. `--accept NAME` leaves out findings of NAME, `--accept NAME:LINE` those
-at LINE.
+at LINE, and commas separate several.
   1 rlb-left-on         in the end RLB is 1 and an entry has L = 1, even one
                         that is OFF: no lock binds. Clear RLB in mseccfg once
                         the entries are locked.

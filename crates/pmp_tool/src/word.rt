@@ -2,10 +2,8 @@
 
 ghost use Rattle.std.specs.Prelude.{◌≡◌, ◌<◌, ◌≤◌, IfSome, List, ℕ, Option, option_map};
 ghost use Rattle.clap.specs.Words.{found_of, rows_of};
-ghost use Rattle.pmp_audit.specs.AcceptedReasons.{accepted_reason_said};
 ghost use Rattle.pmp_core.specs.declared.access.Kind.{Kind};
 ghost use Rattle.pmp_core.specs.declared.access.Mode.{Mode};
-ghost use Rattle.pmp_lint.specs.Findings.{accepted_said};
 ghost use Rattle.pmp_text.specs.AccessWords.{kind_named, mode_named};
 ghost use Rattle.pmp_text.specs.Moments.{when_said};
 ghost use Rattle.pmp_text.specs.Numbers.{word_number};
@@ -19,9 +17,7 @@ use crate::expected::Expected;
 use crate::fault_line::{FaultLine, Place};
 use crate::row_format::RowFormat;
 use clap::ArgMatches;
-use pmp_audit::AcceptedReason;
 use pmp_core::{Kind, Mode};
-use pmp_lint::Accepted;
 use pmp_text::{Only, Refusal, When, is_bare, read_kind, read_mode, read_word_number};
 
 impl FaultLine {
@@ -87,24 +83,6 @@ impl Form for Expected {
             "fault" => Some(Expected::Fault),
             _ => None,
         }
-    }
-}
-
-impl Form for Accepted {
-    ghost named = { accepted_said };
-
-    /// Reads `NAME` or `NAME:LINE`, as `pmp lint` writes them.
-    fn read(word: &str) -> Option<Accepted> {
-        Accepted::read(word.as_bytes())
-    }
-}
-
-impl Form for AcceptedReason {
-    ghost named = { accepted_reason_said };
-
-    /// Reads `REASON` or `REASON:LINE`, as `pmp writes` writes them.
-    fn read(word: &str) -> Option<AcceptedReason> {
-        AcceptedReason::read(word.as_bytes())
     }
 }
 

@@ -69,6 +69,19 @@ impl<'a> Steps<'a> {
         }
     }
 
+    /// Returns the state after so many steps.
+    pub fn state_at(&self, done: u64) -> State
+        requires { done ≤ length (steps_of self.now.pace self.now.script.now.batches) }
+        ensures is { IsStateOf (state_after self.now.pace self.now.script.now) result }
+        ensures done { result.done ≡ done }
+    {
+        let mut state = self.start();
+        while state.done < done {
+            self.advance(&mut state);
+        }
+        state
+    }
+
     /// Executes the next step.
     pub fn advance(&self, state: &mut State)
         requires inside { state.old.done < length (steps_of self.now.pace self.now.script.now.batches) }

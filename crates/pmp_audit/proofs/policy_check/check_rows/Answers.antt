@@ -5,8 +5,9 @@ use Rattle.pmp_text.specs.Labels.{label_text, policy_labels}
 use Rattle.pmp_text.specs.Policies.{policy_fields, policy_meaning}
 use Rattle.pmp_text.specs.Scripts.{script_meaning}
 use Rattle.pmp_audit.specs.declared.policy_check.PolicySummary.{PolicySummary}
-use Rattle.pmp_audit.specs.PolicyCheck.{PolicyRefuses, PolicySays}
-use Rattle.pmp_audit.specs.PolicyRows.{AreWritten}
+use Rattle.pmp_audit.specs.PolicyCheck.{PolicyRefuses}
+use Rattle.pmp_audit.specs.PolicyRows.{AreWritten, IsToldOf}
+use Rattle.pmp_audit.specs.PolicyTexts.{PolicySays}
 use Rattle.pmp_audit.proofs.FaultyInputs.{policy_refused}
 use Rattle.pmp_audit.proofs.PolicyVerdicts.{policy_says}
 use Rattle.pmp_audit.proofs.WrittenAnswers.{refused_also, written_also}
@@ -15,15 +16,16 @@ use Rattle.pmp_audit.proofs.policy_check.check_rows.Goals.{After-write_judged}
 
 says : (g : _) (c : After-write_judged g) (text : List ℕ) → script_meaning text ≡ Ok c.args.script.now
     → (summary : PolicySummary) (verdicts : List ℕ)
-    → AreWritten c.deref-2.result.now (map label_text c.deref-3.result.now) [] verdicts summary
-    → PolicySays c.args.pace text c.args.policy.now summary verdicts
+    → AreWritten (IsToldOf c.args.breaches c.args.pace c.args.script.now) c.deref-2.result.now
+    (map label_text c.deref-3.result.now) [] verdicts summary
+    → PolicySays c.args.breaches c.args.pace text c.args.policy.now summary verdicts
 says g c text means summary verdicts written =
     let rows = c.deref.result.now in
     let policy_means : policy_meaning c.moments_of.result c.args.policy.now ≡ Ok (map policy_fields rows) =
     rw c.deref.ensures.value c.in-Ok.ensures.given in
     let labels : map label_text c.deref-3.result.now ≡ policy_labels c.args.policy.now =
     ap (map label_text) c.deref-3.ensures.value ∙ c.in-Ok.ensures.labels in
-    policy_says c.args.pace text c.args.policy.now c.args.script.now rows c.in_ok-judged.judged.items summary
+    policy_says c.args.breaches c.args.pace text c.args.policy.now c.args.script.now rows c.in_ok-judged.judged.items summary
     c.moments_of.result means c.moments_of.ensures policy_means c.in_ok-judged.ensures.rows
     c.in_ok-judged.ensures.judged verdicts (rw (c.deref-2.ensures.value, labels) at written)
 
@@ -42,7 +44,7 @@ returns-in_err-judged-clause-ok g c = λ text means. IfOk-from_err _ _ c.from_re
 
 pub returns-in-Err-clause-err : goal.returns-in-Err-clause-err
 returns-in-Err-clause-err g c = λ text means.
-    rw c.of_policy.ensures (policy_refused (PolicySays c.args.pace text c.args.policy.now) _
+    rw c.of_policy.ensures (policy_refused (PolicySays c.args.breaches c.args.pace text c.args.policy.now) _
     (PolicyRefuses text c.args.policy.now) c.in-Err.fault _
     (λ why. record {
       contents = c.args.script.now;

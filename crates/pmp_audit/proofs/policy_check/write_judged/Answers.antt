@@ -2,13 +2,14 @@ use Rattle.std.proofs.Common.{[], map}
 use Rattle.std.proofs.KnownBytes.{Keeps-refl}
 use Rattle.std.proofs.lemmas.Result.{IfOk-from_err, err_from_is_err_and}
 use Rattle.pmp_text.specs.Labels.{label_text}
-use Rattle.pmp_audit.specs.PolicyRows.{AreWritten}
+use Rattle.pmp_audit.specs.PolicyRows.{AreWritten, IsToldOf}
 use Rattle.pmp_audit.proofs.WrittenAnswers.{answered, refused}
 use Rattle.pmp_audit.proofs.policy_check.write_judged.Goals as goal
 use Rattle.pmp_audit.proofs.policy_check.write_judged.Goals.{After-write_answer}
 
 says : (g : _) (c : After-write_answer g)
-    → AreWritten c.args.judged.now (map label_text c.args.labels.now) [] c.deref.result.now c.in_ok-summary.summary
+    → AreWritten (IsToldOf c.args.breaches c.args.steps.now.pace c.args.steps.now.script.now) c.args.judged.now
+    (map label_text c.args.labels.now) [] c.deref.result.now c.in_ok-summary.summary
 says g c = rw (c.deref.ensures.value, ← c.new-text.ensures.items) c.in_ok-summary.ensures
 
 pub returns-clause-ok : goal.returns-clause-ok

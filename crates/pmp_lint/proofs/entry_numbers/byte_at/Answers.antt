@@ -1,10 +1,9 @@
-use Rattle.std.proofs.Common.{◌∙◌, ap, refl, arith, get_or}
+use Rattle.std.proofs.Common.{arith}
 use Rattle.std.proofs.lemmas.List.FromFn.{get_or-map-range_with_len}
 use Rattle.pmp_core.specs.declared.size.TheConstants.{MAX_ENTRIES}
 use Rattle.pmp_core.specs.Configuration.{byte_of}
 use Rattle.pmp_core.specs.RegisterFile.{entry_at}
 use Rattle.pmp_core.specs.SavedRegisters.{saved_registers}
-use Rattle.pmp_core.specs.declared.saved_registers.SavedRegisters.{SavedRegisters}
 use Rattle.pmp_lint.proofs.entry_numbers.byte_at.Goals as goal
 
 pub returns : goal.returns

@@ -1,0 +1,9 @@
+use Rattle.std.proofs.Common.{rules, tests}
+use Rattle.std.proofs.lemmas.Iterator.Search.{any_from_yields_List}
+use Rattle.std.proofs.lemmas.Iterator.Splits.{YieldsList-from_slice_split}
+use Rattle.pmp_lint.proofs.accepted.is_accepted.Goals as goal
+
+pub returns : goal.returns
+returns c = any_from_yields_List _ _ _ _ c.any.ensures.ran
+    (YieldsList-from_slice_split _ _ c.args.words.now c.split.ensures.rest c.split.ensures.done c.split.ensures.closure
+    (λ x r q k. search (rules, tests))) (λ x r q k. search (rules, tests))
