@@ -8,11 +8,10 @@ ghost use Rattle.pmp_forms.specs.Cases.{owner_text, path_of};
 ghost use Rattle.pmp_forms.specs.Cases.{range_text, remedy_of, suite_said, verdict_case};
 ghost use Rattle.pmp_forms.specs.Fields.{row_said};
 
-use crate::records::Records;
 use crate::texts::{append_all, bytes};
 use csv::ByteRecord;
 use pmp_lint::Lint as Finding;
-use pmp_text::read_numeral;
+use pmp_text::{Records, read_numeral};
 use std::alloc::{AllocError, Global};
 
 /// What a script is checked for.

@@ -4,7 +4,7 @@ ghost use Rattle.std.specs.Prelude.{◌≡◌, IfOk};
 ghost use Rattle.pmp_forms.specs.Columns.{table_of};
 
 use crate::columns::{Columns, Report, Table};
-use crate::records::Records;
+use pmp_text::Records;
 use std::alloc::{AllocError, Global};
 
 impl Table {

@@ -10,9 +10,8 @@ ghost use Rattle.pmp_forms.specs.Json.{datum, json_text, object_text, row_object
 ghost use Rattle.pmp_forms.specs.Members.{members_from};
 
 use crate::columns::{Column, Columns, Table};
-use crate::records::Records;
 use csv::ByteRecord;
-use pmp_text::read_numeral;
+use pmp_text::{Records, read_numeral};
 use serde_json::Value;
 use std::alloc::{AllocError, Global};
 

@@ -8,7 +8,6 @@ mod json;
 mod junit;
 mod kinds;
 mod markdown;
-mod records;
 mod sarif;
 mod texts;
 

@@ -7,8 +7,8 @@ ghost use Rattle.pmp_forms.specs.Columns.{said};
 ghost use Rattle.pmp_forms.specs.Markdown.{cell, cell_byte, head, head_between, is_markup, line, markdown_text};
 
 use crate::columns::{Column, Columns, Table};
-use crate::records::Records;
 use csv::ByteRecord;
+use pmp_text::Records;
 use std::alloc::{AllocError, Global};
 
 /// Whether a byte has a meaning in a cell that a backslash takes away.

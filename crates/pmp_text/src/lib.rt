@@ -29,8 +29,8 @@ pub use flaw::Flaw;
 pub use input::{MAX_LIMIT, read_bytes};
 pub use lines::{
     ADDRESS_DIGITS, Breach, Change, EventPlace, NoMemory, Only, Since, Verdict, append_line,
-    write_change, write_effect, write_entries, write_expected, write_picture, write_registers,
-    write_row, write_runs, write_script, write_verdict,
+    reason_word, write_change, write_effect, write_entries, write_expected, write_picture,
+    write_registers, write_row, write_runs, write_script, write_verdict,
 };
 pub use mark::{Mark, NAME_BYTES, Name};
 pub use moments::{Coming, Lasting, MomentName, Moments, When};
@@ -46,4 +46,4 @@ pub use script::{
     read_script, split_first_line,
 };
 pub use sink::Sink;
-pub use trace::{MAX_TRACE, Place, Row, RowReader, TraceFault, read_trace};
+pub use trace::{MAX_TRACE, Place, Records, Row, RowReader, TraceFault, read_trace};

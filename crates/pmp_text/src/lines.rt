@@ -20,7 +20,7 @@ mod verdict;
 use crate::sink::Sink;
 use arrayvec::ArrayString;
 pub use changes::{Change, Only, write_change};
-pub use effects::{EventPlace, write_effect};
+pub use effects::{EventPlace, reason_word, write_effect};
 pub use entries::write_entries;
 pub use expected::write_expected;
 pub use hexadecimal::ADDRESS_DIGITS;

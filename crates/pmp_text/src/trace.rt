@@ -13,7 +13,7 @@ use crate::refusal::{Refusal, TraceKind};
 pub(crate) use plain::is_apart;
 use pmp_core::Access;
 pub use reader::{MAX_TRACE, read_trace};
-pub(crate) use records::Records;
+pub use records::Records;
 pub use rows::{Place, RowReader};
 use std::alloc::{AllocError, AllocFailed};
 

@@ -38,7 +38,8 @@ fn effect_word(value: u64, before: u64, after: u64) -> &'static str
     }
 }
 
-fn reason_word(reason: WriteReason) -> &'static str
+/// Returns the word of a reason, as rows write it.
+pub fn reason_word(reason: WriteReason) -> &'static str
     ensures { result.now ≡ reason_text reason }
 {
     match reason {

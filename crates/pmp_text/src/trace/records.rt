@@ -52,7 +52,7 @@ impl<'a> Records<'a> {
     /// Begins another text. It is out of line so that rows of a trace needn't clear the room of a reader.
     #[cold]
     #[inline(never)]
-    pub fn reopen(&mut self, alloc: Global, text: &'a [u8])
+    pub(crate) fn reopen(&mut self, alloc: Global, text: &'a [u8])
         ensures { self.new.left ≡ records_of text.now }
     {
         *self = Records::open(alloc, text);
