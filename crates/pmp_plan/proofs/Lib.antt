@@ -3,3 +3,4 @@ pub mod Answering
 pub mod Judging
 pub mod Rules
 pub mod NoRows
+pub mod Exits

@@ -68,32 +68,28 @@ module _ (hart : Profile) (some : 0 < hart.entries) where
   written_by true false true has = rw (has, none_locked hart.entries) refl
   written_by true true true has = rw (has, none_locked hart.entries) refl
 
-  met_by_write : (mml mmwp rlb : Bool) → hart.has_smepmp ≡ true
-      → MeetsPlan hart (bits mml mmwp rlb) [] (replay hart (Write Mseccfg (security_value (bits mml mmwp rlb)) ∷ []))
-  met_by_write mml mmwp rlb has = rw (written_by mml mmwp rlb has) (meets (bits mml mmwp rlb))
-
   smepmp_by : (has : Bool) (security : Security) → (has ≡ false → security ≡ no_security)
       → security_value security ≢ 0 → has ≡ true
   smepmp_by true security kept asked = refl
   smepmp_by false security kept asked = absurd (asked (ap security_value (kept refl)))
 
+  met_by_write : (mml mmwp rlb : Bool) → (hart.has_smepmp ≡ false → bits mml mmwp rlb ≡ no_security)
+      → security_value (bits mml mmwp rlb) ≢ 0
+      → MeetsPlan hart (bits mml mmwp rlb) [] (replay hart (Write Mseccfg (security_value (bits mml mmwp rlb)) ∷ []))
+  met_by_write mml mmwp rlb kept asked =
+      let has = smepmp_by hart.has_smepmp (bits mml mmwp rlb) kept asked in
+      rw (written_by mml mmwp rlb has) (meets (bits mml mmwp rlb))
+
   met_by_bits : (mml mmwp rlb : Bool) → (hart.has_smepmp ≡ false → bits mml mmwp rlb ≡ no_security)
       → MeetsPlan hart (bits mml mmwp rlb) [] (replay hart (security_writes (bits mml mmwp rlb)))
   met_by_bits false false false kept = meets no_security
-  met_by_bits false false true kept =
-      met_by_write false false true (smepmp_by hart.has_smepmp (bits false false true) kept (λ e. absurd (omega (arith, e))))
-  met_by_bits false true false kept =
-      met_by_write false true false (smepmp_by hart.has_smepmp (bits false true false) kept (λ e. absurd (omega (arith, e))))
-  met_by_bits false true true kept =
-      met_by_write false true true (smepmp_by hart.has_smepmp (bits false true true) kept (λ e. absurd (omega (arith, e))))
-  met_by_bits true false false kept =
-      met_by_write true false false (smepmp_by hart.has_smepmp (bits true false false) kept (λ e. absurd (omega (arith, e))))
-  met_by_bits true false true kept =
-      met_by_write true false true (smepmp_by hart.has_smepmp (bits true false true) kept (λ e. absurd (omega (arith, e))))
-  met_by_bits true true false kept =
-      met_by_write true true false (smepmp_by hart.has_smepmp (bits true true false) kept (λ e. absurd (omega (arith, e))))
-  met_by_bits true true true kept =
-      met_by_write true true true (smepmp_by hart.has_smepmp (bits true true true) kept (λ e. absurd (omega (arith, e))))
+  met_by_bits false false true kept = met_by_write false false true kept (λ e. absurd (omega (arith, e)))
+  met_by_bits false true false kept = met_by_write false true false kept (λ e. absurd (omega (arith, e)))
+  met_by_bits false true true kept = met_by_write false true true kept (λ e. absurd (omega (arith, e)))
+  met_by_bits true false false kept = met_by_write true false false kept (λ e. absurd (omega (arith, e)))
+  met_by_bits true false true kept = met_by_write true false true kept (λ e. absurd (omega (arith, e)))
+  met_by_bits true true false kept = met_by_write true true false kept (λ e. absurd (omega (arith, e)))
+  met_by_bits true true true kept = met_by_write true true true kept (λ e. absurd (omega (arith, e)))
 
   pub met_without_rows : (security : Security) → (hart.has_smepmp ≡ false → security ≡ no_security)
       → MeetsPlan hart security [] (replay hart (security_writes security))

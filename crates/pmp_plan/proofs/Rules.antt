@@ -1,8 +1,9 @@
 -- What an entry gives by the rule that it keeps, and that all rules have bytes.
-use Rattle.std.proofs.Common.{◌≡◌, ◌∙◌, ap, refl, ℕ, ◌<◌, Bool, false, true, Some, arith, get_or-set_same, length, if◌then◌else◌}
-use Rattle.std.proofs.Common.{slice_index, slice_set}
+use Rattle.std.proofs.Common.{◌≡◌, ◌∙◌, ap, refl, ℕ, ◌+◌, ◌*◌, ◌/◌, ◌%◌, ◌<◌, ◌==◌, Bool, false, true, Some, arith}
+use Rattle.std.proofs.Common.{get_or-set_same, length, if◌then◌else◌, slice_index, slice_set, subst, sym}
+use Rattle.std.proofs.lemmas.Bool.{agree_below_at, eqb-true}
 use Rattle.std.proofs.lemmas.List.FromFn.{length-map-range_with_len}
-use Rattle.pmp_core.specs.Configuration.{Configuration, byte_of, configuration_of}
+use Rattle.pmp_core.specs.Configuration.{Configuration, bit_of, byte_of, configuration_of}
 use Rattle.pmp_core.specs.declared.hart.Profile.{Profile}
 use Rattle.pmp_core.specs.declared.size.Size.TheVariants.{Sixteen}
 use Rattle.pmp_core.specs.Hart.{profile_of, profile_with}
@@ -10,12 +11,12 @@ use Rattle.pmp_core.specs.RegisterFile.{RegisterFile, entry_at, reset_entry, res
 use Rattle.pmp_core.specs.RegisterWrite.{stored_over, without_reserved}
 use Rattle.pmp_core.specs.SavedRegisters.{fields_in, hart_in, hart_number, restored_entry, restored_file, saved_hart}
 use Rattle.pmp_core.specs.SavedRegisters.{saved_registers}
-use Rattle.pmp_core.specs.declared.configuration.AddressMatching.{AddressMatching}
 use Rattle.pmp_core.specs.declared.configuration.AddressMatching.TheVariants.{Off}
 use Rattle.pmp_core.specs.declared.mseccfg.MseccfgFields.{MseccfgFields}
 use Rattle.pmp_core.specs.Entry.{Entry}
 use Rattle.pmp_core.specs.declared.saved_registers.SavedRegisters.{SavedRegisters}
 use Rattle.pmp_core.proofs.Saved.{fields_back, length-restored, restored_at}
+use Rattle.pmp_core.proofs.StoredBytes.{bit_le, configuration_back}
 use Rattle.pmp_map.specs.Answers.{rights_by}
 use Rattle.pmp_plan.specs.declared.choices.TheConstants.{RULES}
 use Rattle.pmp_plan.specs.declared.plan_row.Demand.{Demand}
@@ -24,105 +25,36 @@ use Rattle.pmp_plan.specs.PlanRules.{IsRuleFor, rule_pair}
 use Rattle.pmp_plan.specs.Plans.{security_value}
 use Rattle.pmp_plan.specs.StoredRules.{stored_rule}
 
--- a rule with these bits
-abbrev pub rule_of : AddressMatching → (l x w r : Bool) → Configuration
-rule_of matching l x w r = record { locked = l; matching = matching; execute = x; write = w; read = r }
+-- the byte at a place among those of all rules
+byte_at : (place : ℕ) → place < 16 → slice_index RULES place ≡ 128 * (place / 8) + place % 8
+byte_at place few = eqb-true _ _
+    (agree_below_at (λ p. slice_index RULES p == 128 * (p / 8) + p % 8) (λ _. true) 16 place refl few)
 
--- the place of its byte among those of all rules
-abbrev pub place_of : (l x w r : Bool) → ℕ
-place_of false false false false = 0
-place_of false false false true = 1
-place_of false false true false = 2
-place_of false false true true = 3
-place_of false true false false = 4
-place_of false true false true = 5
-place_of false true true false = 6
-place_of false true true true = 7
-place_of true false false false = 8
-place_of true false false true = 9
-place_of true false true false = 10
-place_of true false true true = 11
-place_of true true false false = 12
-place_of true true false true = 13
-place_of true true true false = 14
-place_of true true true true = 15
+-- A doesn't matter
+off_alike : (security : Security) (mml : Bool) → security.mml ≡ mml → (rule : Configuration)
+    → rule_pair security (record rule { matching = Off }) ≡ rule_pair security rule
+off_alike security false is rule = rw is refl
+off_alike security true is rule = rw is refl
 
-module _ (security : Security) (demand : Demand) where
-  abbrev ForByte : (place : ℕ) → Type 0
-  ForByte place = IsRuleFor security demand (configuration_of (slice_index RULES place))
-
-  pair_by : (mml mmwp rlb : Bool) (m : AddressMatching) (l x w r : Bool)
-      → let security : Security = record { mml = mml; mmwp = mmwp; rlb = rlb } in
-      rule_pair security (rule_of Off l x w r) ≡ rule_pair security (rule_of m l x w r)
-  pair_by false mmwp rlb m l x w r = refl
-  pair_by true mmwp rlb m l x w r = refl
-
-  -- A doesn't matter
-  pair : (m : AddressMatching) (l x w r : Bool)
-      → rule_pair security (rule_of Off l x w r) ≡ rule_pair security (rule_of m l x w r)
-  pair m l x w r = pair_by security.mml security.mmwp security.rlb m l x w r
-
-  by_bits : (m : AddressMatching) (l x w r : Bool) → IsRuleFor security demand (rule_of m l x w r)
-      → ForByte (place_of l x w r)
-  by_bits m false false false false is =
-      record { legal = is.legal; rights = pair m false false false false ∙ is.rights; holds = is.holds }
-  by_bits m false false false true is =
-      record { legal = is.legal; rights = pair m false false false true ∙ is.rights; holds = is.holds }
-  by_bits m false false true false is =
-      record { legal = is.legal; rights = pair m false false true false ∙ is.rights; holds = is.holds }
-  by_bits m false false true true is =
-      record { legal = is.legal; rights = pair m false false true true ∙ is.rights; holds = is.holds }
-  by_bits m false true false false is =
-      record { legal = is.legal; rights = pair m false true false false ∙ is.rights; holds = is.holds }
-  by_bits m false true false true is =
-      record { legal = is.legal; rights = pair m false true false true ∙ is.rights; holds = is.holds }
-  by_bits m false true true false is =
-      record { legal = is.legal; rights = pair m false true true false ∙ is.rights; holds = is.holds }
-  by_bits m false true true true is =
-      record { legal = is.legal; rights = pair m false true true true ∙ is.rights; holds = is.holds }
-  by_bits m true false false false is =
-      record { legal = is.legal; rights = pair m true false false false ∙ is.rights; holds = is.holds }
-  by_bits m true false false true is =
-      record { legal = is.legal; rights = pair m true false false true ∙ is.rights; holds = is.holds }
-  by_bits m true false true false is =
-      record { legal = is.legal; rights = pair m true false true false ∙ is.rights; holds = is.holds }
-  by_bits m true false true true is =
-      record { legal = is.legal; rights = pair m true false true true ∙ is.rights; holds = is.holds }
-  by_bits m true true false false is =
-      record { legal = is.legal; rights = pair m true true false false ∙ is.rights; holds = is.holds }
-  by_bits m true true false true is =
-      record { legal = is.legal; rights = pair m true true false true ∙ is.rights; holds = is.holds }
-  by_bits m true true true false is =
-      record { legal = is.legal; rights = pair m true true true false ∙ is.rights; holds = is.holds }
-  by_bits m true true true true is =
-      record { legal = is.legal; rights = pair m true true true true ∙ is.rights; holds = is.holds }
-
-  few : (l x w r : Bool) → place_of l x w r < 16
-  few false false false false = omega arith
-  few false false false true = omega arith
-  few false false true false = omega arith
-  few false false true true = omega arith
-  few false true false false = omega arith
-  few false true false true = omega arith
-  few false true true false = omega arith
-  few false true true true = omega arith
-  few true false false false = omega arith
-  few true false false true = omega arith
-  few true false true false = omega arith
-  few true false true true = omega arith
-  few true true false false = omega arith
-  few true true false true = omega arith
-  few true true true false = omega arith
-  few true true true true = omega arith
-
-  -- a rule that serves has a byte
-  pub has_byte : (rule : Configuration) → IsRuleFor security demand rule
-      → (place : ℕ) × (place < 16) × ForByte place
-  has_byte rule is = (
-    place_of rule.locked rule.execute rule.write rule.read,
-    few rule.locked rule.execute rule.write rule.read,
-    by_bits rule.matching rule.locked rule.execute rule.write rule.read is,
-  )
+-- a rule that serves has a byte
+pub has_byte : (security : Security) (demand : Demand) (rule : Configuration) → IsRuleFor security demand rule
+    → (place : ℕ) × (place < 16) × IsRuleFor security demand (configuration_of (slice_index RULES place))
+has_byte security demand rule is =
+    let off : Configuration = record rule { matching = Off } in
+    let place = 8 * bit_of rule.locked + 4 * bit_of rule.execute + 2 * bit_of rule.write + bit_of rule.read in
+    let few : place < 16 =
+    omega (arith, bit_le rule.locked, bit_le rule.execute, bit_le rule.write, bit_le rule.read) in
+    let byte : slice_index RULES place ≡ byte_of off = byte_at place few
+    ∙ omega (arith, bit_le rule.locked, bit_le rule.execute, bit_le rule.write, bit_le rule.read) in
+    let back : configuration_of (slice_index RULES place) ≡ off = ap configuration_of byte ∙ configuration_back off in (
+      place,
+      few,
+      subst (IsRuleFor security demand) (sym back) (record {
+        legal = is.legal;
+        rights = off_alike security security.mml refl rule ∙ is.rights;
+        holds = is.holds;
+      }),
+    )
 
 -- what an entry gives that has the rule
 given : (file : RegisterFile) (security : Security) (rule : Configuration) → file.mseccfg.mml ≡ security.mml

@@ -1,7 +1,7 @@
 //! The text that is written for a plan.
 
 ghost use Rattle.std.specs.Prelude.{◌≡◌, IfErr, IfOk, OnOk};
-ghost use Rattle.pmp_plan.specs.PlanAnswers.{IsTold, PlanFails, PlanSays, Untold, too_long};
+ghost use Rattle.pmp_plan.specs.PlanAnswers.{IsTold, PlanFails, PlanSays, Untold};
 ghost use Rattle.pmp_plan.specs.declared.answer.AnswerFault.TheVariants.{Output, Plan, Script, Text};
 ghost use Rattle.pmp_plan.specs.declared.fault.PlanFault.TheVariants.{Memory};
 
@@ -99,12 +99,6 @@ fn told(
     Ok(text)
 }
 
-fn too_long() -> TraceFault
-    ensures { result ≡ too_long }
-{
-    Refusal::TooLong.whole().at_row(0)
-}
-
 /// Writes the writes for a plan in a text, from these registers.
 ///
 /// The text is complete before its first byte is written, so every refusal but `Output` leaves the output untouched.
@@ -120,7 +114,7 @@ pub fn write_plan<W: Write>(
     ensures err { IfErr result (PlanFails start.now aim form text.now (W.contents writer.old) (W.contents writer.new)) }
 {
     if text.len() > MAX_SCRIPT {
-        return Err(AnswerFault::Text(too_long()));
+        return Err(AnswerFault::Text(Refusal::TooLong.whole().at_row(0)));
     }
     let rows = read_plan(alloc, text)?;
     let told = told(alloc, start, aim, form, &rows)?;

@@ -1,14 +1,12 @@
 //! Where a plan's entries are put among those that a register file has.
 
+use crate::moves::TOR;
 use crate::parts::{PARTS, Parts};
 use crate::state::{Chosen, State};
 use pmp_core::{Lock, RegFile, SavedRegisters};
 
-/// The field A of a configuration byte.
-const MATCHING: u8 = 24;
-
-/// The field A of a configuration byte: top of range.
-const TOR: u8 = 8;
+/// The field A of a configuration byte, which says what bytes the entry matches.
+pub const MATCHING: u8 = 24;
 
 /// The entries that are sought, and the registers that they are put into.
 #[derive(Clone, Copy)]

@@ -1,6 +1,6 @@
 //! Writes that lead from registers to a plan.
 
-ghost use Rattle.std.specs.Prelude.{IfErr, IfOk, IfSome};
+ghost use Rattle.std.specs.Prelude.{IfErr, IfOk};
 ghost use Rattle.pmp_plan.specs.PlanFaults.{IsSound, RefusesFrom};
 ghost use Rattle.pmp_plan.specs.Routes.{Leads, lasting};
 
@@ -17,7 +17,7 @@ use crate::search::search;
 use crate::state::State;
 use crate::writes::WRITES;
 use arrayvec::ArrayVec;
-use pmp_core::{Event, RegFile};
+use pmp_core::{Event, RegFile, SavedRegisters};
 
 /// Returns writes to the plan's entries in the first place where an order is found.
 fn order_in(layout: Layout<'_>, aim: Aim, rows: &[PlanRow<'_>]) -> Option<ArrayVec<Event, WRITES>> {
@@ -48,8 +48,20 @@ fn keeping(aim: Aim) -> Aim {
     Aim { watch, ..aim }
 }
 
-/// Returns writes to the plan's entries, if they are found: if possible, what is open before and after stays open.
-fn order_of(layout: Layout<'_>, aim: Aim, rows: &[PlanRow<'_>]) -> Option<ArrayVec<Event, WRITES>> {
+/// Returns writes that put these entries, so many of them, among those that are there, if they are found: if possible,
+/// what is open before and after stays open.
+fn order_of(
+    start: &RegFile,
+    wanted: &SavedRegisters,
+    count: usize,
+    aim: Aim,
+    rows: &[PlanRow<'_>],
+) -> Option<ArrayVec<Event, WRITES>> {
+    let layout = Layout {
+        start,
+        wanted,
+        count,
+    };
     let kept = order_in(layout, keeping(aim), rows);
     if kept.is_some() {
         return kept;
@@ -57,43 +69,8 @@ fn order_of(layout: Layout<'_>, aim: Aim, rows: &[PlanRow<'_>]) -> Option<ArrayV
     order_in(layout, aim, rows)
 }
 
-/// Returns writes to the entries that a plan has after a reset.
-fn as_after_reset(
-    start: &RegFile,
-    aim: Aim,
-    rows: &[PlanRow<'_>],
-    planned: &Planned,
-) -> Option<ArrayVec<Event, WRITES>> {
-    let mut wanted = RegFile::reset_on(start.hart());
-    wanted.run_events(&planned.writes);
-    let wanted = wanted.save();
-    let layout = Layout {
-        start,
-        wanted: &wanted,
-        count: planned.entries,
-    };
-    order_of(layout, aim, rows)
-}
-
-/// Returns writes to entries that are found behind those that no write changes.
-fn as_behind_frozen(
-    room: &mut [State],
-    start: &RegFile,
-    aim: Aim,
-    rows: &[PlanRow<'_>],
-) -> Option<ArrayVec<Event, WRITES>> {
-    let parts = Parts::of(start.hart(), aim.lasting(start), rows)?;
-    let state = search(room, &parts, behind_frozen(&parts, start))?;
-    let wanted = with_entries(start, state.entries());
-    let layout = Layout {
-        start,
-        wanted: &wanted,
-        count: state.count,
-    };
-    order_of(layout, aim, rows)
-}
-
-/// Returns writes from these registers, if they are found: none if the registers meet the plan.
+/// Returns writes from these registers, if they are found: none if the registers meet the plan, or else to the entries
+/// that a plan has after a reset, or else to entries that are found behind those that no write changes.
 fn found(
     room: &mut [State],
     start: &RegFile,
@@ -104,28 +81,16 @@ fn found(
     if leads(start, aim, rows, &[]) {
         return Some(ArrayVec::new());
     }
-    let writes = as_after_reset(start, aim, rows, planned);
+    let mut after_reset = RegFile::reset_on(start.hart());
+    after_reset.run_events(&planned.writes);
+    let writes = order_of(start, &after_reset.save(), planned.entries, aim, rows);
     if writes.is_some() {
         return writes;
     }
-    as_behind_frozen(room, start, aim, rows)
-}
-
-/// Returns writes from these registers, if they are found, and lead to the plan.
-fn ordered(
-    room: &mut [State],
-    start: &RegFile,
-    aim: Aim,
-    rows: &[PlanRow<'_>],
-    planned: &Planned,
-) -> Option<ArrayVec<Event, WRITES>>
-    ensures { IfSome result (λ writes. Leads start.now aim rows.now writes.items) }
-{
-    let writes = found(room, start, aim, rows, planned)?;
-    if !leads(start, aim, rows, &writes) {
-        return None;
-    }
-    Some(writes)
+    let parts = Parts::of(start.hart(), aim.lasting(start), rows)?;
+    let state = search(room, &parts, behind_frozen(&parts, start))?;
+    let wanted = with_entries(start, state.entries());
+    order_of(start, &wanted, state.count, aim, rows)
 }
 
 /// Returns writes from these registers to ones that give each byte of each row exactly the row's rights, hold it if the
@@ -150,5 +115,8 @@ pub fn plan(
     if is_reset && leads(start, aim, rows, &planned.writes) {
         return Ok(planned.writes);
     }
-    ordered(room, start, aim, rows, &planned).ok_or(PlanFault::NoOrder)
+    match found(room, start, aim, rows, &planned) {
+        Some(writes) if leads(start, aim, rows, &writes) => Ok(writes),
+        _ => Err(PlanFault::NoOrder),
+    }
 }

@@ -7,7 +7,7 @@ use crate::state::{Chosen, State};
 use pmp_core::ByteRange;
 
 /// The field A of a configuration byte: top of range.
-const TOR: u8 = 8;
+pub const TOR: u8 = 8;
 
 /// The field A of a configuration byte: naturally aligned four bytes.
 const NA4: u8 = 16;

@@ -1,13 +1,11 @@
 //! The search for an order of writes.
 
 use crate::aim::Watch;
+use crate::layout::MATCHING;
 use crate::passing::Passage;
 use crate::writes::{CONFIGURATIONS, WRITES, before_lockdown};
 use arrayvec::ArrayVec;
 use pmp_core::{Csr, Event, MAX_ENTRIES, RegFile, SavedRegisters};
-
-/// The bits of a configuration byte that say which bytes the entry matches.
-const MATCHING: u8 = 24;
 
 /// Bits of `mseccfg`.
 const MML: u64 = 1;
@@ -229,9 +227,9 @@ impl<'a> Route<'a> {
         }
         let mseccfg = self.target.mseccfg;
         let _same = self.take(Csr::Mseccfg, mseccfg);
-        let end = *self.end;
-        let now = self.now;
-        let writes = self.writes.take();
-        if now == end { Some(writes) } else { None }
+        if self.now == *self.end {
+            return Some(self.writes.take());
+        }
+        None
     }
 }

@@ -3,7 +3,7 @@
 ghost use Rattle.std.specs.Prelude.{◌≡◌, ◌⊎◌, ◌++◌, ◌∷◌, [], Err, IfErr, IfOk, Ok, OnOk, map};
 ghost use Rattle.pmp_text.specs.Lines.{lines};
 ghost use Rattle.pmp_text.specs.Outcomes.{no_memory_for_rows};
-ghost use Rattle.pmp_plan.specs.PlanTexts.{no_header, plan_said, rows_from};
+ghost use Rattle.pmp_plan.specs.PlanTexts.{plan_said, rows_from};
 ghost use Rattle.pmp_plan.specs.KeptRows.{AddsRow, IsFaultOf, said};
 
 use crate::plan_row::PlanRow;
@@ -13,12 +13,6 @@ use std::alloc::Global;
 
 /// The first line of a plan.
 pub const HEADER: &[u8] = b"first,last,m,su,locked,name";
-
-fn no_header() -> TraceFault
-    ensures { result ≡ no_header }
-{
-    Refusal::BadHeader.whole().at_row(0)
-}
 
 /// Returns the rows in a text: the line `first,last,m,su,locked,name`, and a line with these six fields for each row,
 /// such as `0x80000000,0x8001ffff,r-x,---,yes,firmware`.
@@ -42,7 +36,7 @@ pub fn read_plan_to<'a, L: RowList<'a>>(rows: &mut L, text: &'a [u8]) -> Result<
 {
     match split_first_line(text) {
         Some((header, behind)) if header == HEADER => read_rows(rows, behind),
-        _ => Err(no_header()),
+        _ => Err(Refusal::BadHeader.whole().at_row(0)),
     }
 }
 

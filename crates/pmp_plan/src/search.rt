@@ -19,8 +19,7 @@ fn finished(levels: &Levels<'_>, entries: usize) -> Option<State> {
 /// Offers the states that those with this number of entries lead to.
 fn expand_all(parts: &Parts, levels: &mut Levels<'_>, entries: usize) {
     for index in 0..levels.count(entries) {
-        if let Some(state) = levels.state(entries, index) {
-            let state = *state;
+        if let Some(state) = levels.state(entries, index).copied() {
             expand(parts, &state, levels);
         }
     }

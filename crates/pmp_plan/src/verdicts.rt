@@ -5,7 +5,7 @@ ghost use Rattle.pmp_core.specs.RegisterFile.{RegisterFile};
 ghost use Rattle.pmp_text.specs.Outcomes.{no_memory_for_rows};
 ghost use Rattle.pmp_text.specs.RunLines.{owner_text};
 ghost use Rattle.pmp_plan.specs.PlanTexts.{plan_said};
-ghost use Rattle.pmp_plan.specs.Verdicts.{AreJudged, IsRestVerdict, IsVerdict, VerdictsSay, verdict_line};
+ghost use Rattle.pmp_plan.specs.Verdicts.{AreJudged, IsRestVerdict, VerdictsSay, verdict_line};
 
 use crate::letters::{Letters, yes_no};
 use crate::plan_row::PlanRow;
@@ -58,13 +58,6 @@ impl fmt::Display for VerdictLine {
     }
 }
 
-/// Returns the first byte for which a row isn't met.
-fn verdict(registers: &Registers<'_>, row: &PlanRow<'_>) -> Option<Unmet>
-    ensures { IsVerdict registers.now row.now result }
-{
-    first_unmet(registers, row.first, row.last, row.demand)
-}
-
 /// Appends a line for each row.
 fn append_rows<S: Sink>(
     out: &mut S,
@@ -76,7 +69,7 @@ fn append_rows<S: Sink>(
 {
     for (index, row) in rows.iter().enumerate() {
         let number = index as u64 + 1;
-        let unmet = verdict(registers, row);
+        let unmet = first_unmet(registers, row.first, row.last, row.demand);
         append_line(out, VerdictLine { number, unmet })?;
     }
     Ok(())

@@ -1,27 +1,23 @@
 use Rattle.std.proofs.Common.{◌∙◌, ap, inl, sym, List, Ok, map}
-use Rattle.std.proofs.lemmas.Result.{err_from_is_err_and}
 use Rattle.pmp_plan.specs.KeptRows.{said}
 use Rattle.pmp_plan.specs.PlanRooms.{no_rows, no_script}
 use Rattle.pmp_plan.specs.declared.fault.PlanFault.TheVariants.{Memory}
 use Rattle.pmp_plan.specs.declared.plan_row.PlanRow.{PlanRow}
+use Rattle.pmp_plan.proofs.Exits.{err_returned}
 use Rattle.pmp_plan.proofs.room_plan.append_plan.Goals as goal
 
 pub returns-in_err-read_plan_to-clause-err : goal.returns-in_err-read_plan_to-clause-err
 returns-in_err-read_plan_to-clause-err g c =
-    let p = err_from_is_err_and c.from_residual.result c.from_residual.ensures.1 in
-    rw (p.1, p.2) (no_rows _ c.in_err-read_plan_to.ensures.err)
+    err_returned _ _ c.from_residual.ensures.1 (no_rows _ c.in_err-read_plan_to.ensures.err)
 
 pub returns-in_err-writes-clause-err : goal.returns-in_err-writes-clause-err
 returns-in_err-writes-clause-err g c =
-    let exit = c.from_residual-in_err-writes in
-    let p = err_from_is_err_and exit.result exit.ensures.1 in
     let are = c.in_ok-read_plan_to.ensures.ok ∙ ap (λ (rows : List PlanRow). Ok (map said rows)) (sym c.rows.ensures) in
-    rw (p.1, p.2) (no_script c.rows.result.now _ are
+    err_returned _ _ c.from_residual-in_err-writes.ensures.1
+    (no_script c.rows.result.now _ are
     (rw (c.reset_on-start.ensures, c.plain-aim.ensures) at c.in_err-writes.ensures.err))
 
 pub returns-in_err-append_script-clause-err : goal.returns-in_err-append_script-clause-err
 returns-in_err-append_script-clause-err g c =
-    let exit = c.from_residual-in_err-append_script in
-    let p = err_from_is_err_and exit.result exit.ensures.1 in
     let are = c.in_ok-read_plan_to.ensures.ok ∙ ap (λ (rows : List PlanRow). Ok (map said rows)) (sym c.rows.ensures) in
-    rw (p.1, p.2) (no_script c.rows.result.now Memory are (inl tt))
+    err_returned _ _ c.from_residual-in_err-append_script.ensures.1 (no_script c.rows.result.now Memory are (inl tt))

@@ -5,8 +5,7 @@ use Rattle.std.proofs.lemmas.Option.{slice_get_read}
 use Rattle.std.specs.Prelude.{slice_get}
 use Rattle.pmp_core.specs.declared.hart.Profile.{Profile}
 use Rattle.pmp_plan.specs.declared.fault.PlanFault.{PlanFault}
-use Rattle.pmp_plan.specs.declared.fault.PlanFault.TheVariants.{Overlap, TooFine, PastEnd, BadPair, NotHeld}
-use Rattle.pmp_plan.specs.declared.fault.PlanFault.TheVariants.{FewEntries, Stopped, NoOrder, Memory}
+use Rattle.pmp_plan.specs.declared.fault.PlanFault.TheVariants.{TooFine, PastEnd}
 use Rattle.pmp_plan.specs.declared.plan_row.PlanRow.{PlanRow}
 use Rattle.pmp_plan.specs.declared.security.Security.{Security}
 use Rattle.pmp_plan.specs.PlanFaults.{IsFit, IsFlawOf, Refuses}
@@ -17,13 +16,7 @@ refused : (hart : Profile) (security : Security) (rows : List PlanRow) (index : 
     → slice_get rows index ≡ Some row → IsFlawOf hart index row one → Refuses hart security rows one
 refused hart security rows index row (TooFine number field) at flaw = (row, ap (slice_get rows) flaw.0 ∙ at, flaw.1)
 refused hart security rows index row (PastEnd number) at flaw = (row, ap (slice_get rows) flaw.0 ∙ at, flaw.1)
-refused hart security rows index row (Overlap one other) at flaw = absurd flaw
-refused hart security rows index row (BadPair one) at flaw = absurd flaw
-refused hart security rows index row NotHeld at flaw = absurd flaw
-refused hart security rows index row (FewEntries found number takes) at flaw = absurd flaw
-refused hart security rows index row Stopped at flaw = absurd flaw
-refused hart security rows index row NoOrder at flaw = absurd flaw
-refused hart security rows index row Memory at flaw = absurd flaw
+refused hart security rows index row fault at flaw = absurd flaw
 
 pub returns-in-Some-flaw_of-clause-err : goal.returns-in-Some-flaw_of-clause-err
 returns-in-Some-flaw_of-clause-err c security =

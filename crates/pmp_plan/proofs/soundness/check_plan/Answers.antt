@@ -1,7 +1,6 @@
-use Rattle.std.proofs.lemmas.Result.{err_from_is_err_and}
+use Rattle.pmp_plan.proofs.Exits.{err_returned}
 use Rattle.pmp_plan.proofs.soundness.check_plan.Goals as goal
 
 pub returns-in_err-check_rows-clause-err : goal.returns-in_err-check_rows-clause-err
 returns-in_err-check_rows-clause-err c =
-    let p = err_from_is_err_and c.from_residual.result c.from_residual.ensures.1 in
-    rw (p.1, p.2) (c.in_err-check_rows.ensures.err c.args.security)
+    err_returned _ _ c.from_residual.ensures.1 (c.in_err-check_rows.ensures.err c.args.security)
