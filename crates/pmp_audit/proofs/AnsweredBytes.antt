@@ -2,6 +2,7 @@
 use Rattle.std.proofs.Common.{◌≡◌, ◌<◌, ℕ, Bool, true, false, not, Option, Some, None, refl, sym, subst, ◌∙◌, arith}
 use Rattle.std.proofs.Common.{rules, true≢false}
 use Rattle.std.proofs.Math.Bool.{beq}
+use Rattle.std.specs.Cmp.{booleans_Decides}
 use Rattle.pmp_core.specs.Configuration.{Configuration}
 use Rattle.pmp_core.specs.declared.access.Access.{Access}
 use Rattle.pmp_core.specs.declared.access.Kind.{Kind}
@@ -25,20 +26,13 @@ module _ (file : RegisterFile) (byte : ℕ) (owner : Option ℕ) (mode : Mode) (
   answered allowed is = subst (λ (b : Bool). IsAnswered file b mode kind byte) is
       (open_byte file byte owner mode kind inside owned)
 
-same : (one other : Bool) → beq one other ≡ true → one ≡ other
-same true true e = refl
-same true false e = absurd cc
-same false true e = absurd cc
-same false false e = refl
-
 differ : (one other : Bool) → beq one other ≡ false → one ≡ not other
-differ true true e = absurd cc
 differ true false e = refl
 differ false true e = refl
-differ false false e = absurd cc
+differ one other e = absurd cc
 
 pub same_given : (one other given : Bool) → one ≡ given → beq one other ≡ true → given ≡ other
-same_given one other given is e = sym is ∙ same one other e
+same_given one other given is e = sym is ∙ (booleans_Decides one other).0 e
 
 pub differ_given : (one other given : Bool) → one ≡ given → beq one other ≡ false → given ≡ not other
 differ_given one other given is e = sym is ∙ differ one other e

@@ -70,25 +70,20 @@ kinds_alike : (kind other : Kind) → same_kind kind other ≡ true → other �
 kinds_alike Fetch Fetch same = refl
 kinds_alike Load Load same = refl
 kinds_alike Store Store same = refl
-kinds_alike Fetch Load same = absurd cc
-kinds_alike Fetch Store same = absurd cc
-kinds_alike Load Fetch same = absurd cc
-kinds_alike Load Store same = absurd cc
-kinds_alike Store Fetch same = absurd cc
-kinds_alike Store Load same = absurd cc
+kinds_alike kind other same = absurd cc
 
 rights_alike : (file : RegisterFile) (owner : Option ℕ) (kind : Kind) (mode other : Mode)
     → has_mode (modes_like mode) other ≡ true
     → allows (owned_rights file owner other) kind ≡ allows (owned_rights file owner mode) kind
 rights_alike file owner kind M M has = refl
-rights_alike file owner kind M S has = absurd cc
-rights_alike file owner kind M U has = absurd cc
-rights_alike file owner kind S M has = absurd cc
 rights_alike file owner kind S S has = refl
-rights_alike file owner kind S U has = ap (λ rights. allows rights kind) (sym (others_alike file owner))
-rights_alike file owner kind U M has = absurd cc
-rights_alike file owner kind U S has = ap (λ rights. allows rights kind) (others_alike file owner)
 rights_alike file owner kind U U has = refl
+rights_alike file owner kind S U has = ap (λ rights. allows rights kind) (sym (others_alike file owner))
+rights_alike file owner kind U S has = ap (λ rights. allows rights kind) (others_alike file owner)
+rights_alike file owner kind mode other has = absurd cc
+
+abbrev Kept : ScriptContents → PolicyRow → Type 0
+Kept script row = (pace : Pace) → IsVerdict pace script row Holds
 
 module _ (script : ScriptContents) (few : length script.batches < 2 ^ 64) (mode : Mode) (kind : Kind) (range : Span)
     (is : IsClosedRange (end_of script) mode kind range) where
@@ -118,7 +113,7 @@ module _ (script : ScriptContents) (few : length script.batches < 2 ^ 64) (mode 
       never_both (end_of script) kind byte mode other
       (λ owner. rights_alike (end_of script) owner kind mode other named) there (is.closed byte (from, to))
 
-  own_read : IsRead (AreMoments script) (λ row. (pace : Pace) → IsVerdict pace script row Holds)
+  own_read : IsRead (AreMoments script) (Kept script)
       (record { words = last_moment script ∷ never_fields mode kind range; row = own })
   unfolding own
   own_read = record {
@@ -150,11 +145,7 @@ kind_plain Store = refl
 
 module _ (script : ScriptContents) (few : length script.batches < 2 ^ 64) where
   abbrev Rows : List ℕ → Type 0
-  Rows text = AreRows (AreMoments script) (λ row. (pace : Pace) → IsVerdict pace script row Holds) text
-
-  both : (one other : List ℕ) → Rows one → Rows other → Rows (one ++ other)
-  both one other is too =
-      both_rows (AreMoments script) (λ row. (pace : Pace) → IsVerdict pace script row Holds) one other is too
+  Rows text = AreRows (AreMoments script) (Kept script) text
 
   module _ (mode : Mode) (kind : Kind) where
     own_plain : (range : Span) → IsClosedRange (end_of script) mode kind range
@@ -183,26 +174,25 @@ module _ (script : ScriptContents) (few : length script.batches < 2 ^ 64) where
         → Rows (never_row (last_moment script) mode kind range)
     unfolding never_row
     range_rows range is =
-        one_row (AreMoments script) (λ row. (pace : Pace) → IsVerdict pace script row Holds) (last_moment script) [] _
+        one_row (AreMoments script) (Kept script) (last_moment script) [] _
         (own script few mode kind range is) (own_plain range is) (own_read script few mode kind range is)
 
     ranges_rows : (from : ℕ) (ranges : List Span) → AreClosedFrom (end_of script) mode kind from ranges
         → Rows (flat_map (never_row (last_moment script) mode kind) ranges)
-    ranges_rows from [] are = no_rows (AreMoments script) (λ row. (pace : Pace) → IsVerdict pace script row Holds)
+    ranges_rows from [] are = no_rows (AreMoments script) (Kept script)
     ranges_rows from (range ∷ rest) are =
-        both _ _ (range_rows range are.0.2) (ranges_rows (range.last + 1) rest are.1)
+        both_rows _ _ _ _ (range_rows range are.0.2) (ranges_rows (range.last + 1) rest are.1)
 
     kind_rows : (text : List ℕ) → AreNeverRows (end_of script) (last_moment script) mode kind text → Rows text
     kind_rows text is = subst Rows (sym is.rows) (ranges_rows 0 is.ranges is.ranges_are)
 
   mode_rows : (mode : Mode) (text : List ℕ) → IsModeText (end_of script) (last_moment script) mode text → Rows text
-  mode_rows mode text is = subst Rows (sym is.text_is) (both is.fetches (is.loads ++ is.stores)
-      (kind_rows mode Fetch is.fetches is.fetches_are)
-      (both is.loads is.stores (kind_rows mode Load is.loads is.loads_are)
-      (kind_rows mode Store is.stores is.stores_are)))
+  mode_rows mode text is = subst Rows (sym is.text_is)
+      (both_rows _ _ _ _ (kind_rows mode Fetch is.fetches is.fetches_are)
+      (both_rows _ _ _ _ (kind_rows mode Load is.loads is.loads_are) (kind_rows mode Store is.stores is.stores_are)))
 
   all_kept : (entries : List Entry) (pace : Pace)
-      → AllByRecursion (IsRead (AreMoments script) (λ row. (pace : Pace) → IsVerdict pace script row Holds)) entries
+      → AllByRecursion (IsRead (AreMoments script) (Kept script)) entries
       → AllByRecursion (λ row. IsVerdict pace script row Holds) (rows_in entries)
   all_kept [] pace are = tt
   all_kept (entry ∷ more) pace (is, rest) = (is.kept pace, all_kept more pace rest)
@@ -211,12 +201,12 @@ module _ (script : ScriptContents) (few : length script.batches < 2 ^ 64) where
       → HoldsFor script text
   draft_holds text is short =
       let body = is.machine ++ is.others in
-      let rows : Rows body = both is.machine is.others (mode_rows M is.machine is.machine_is)
-      (mode_rows U is.others is.others_is) in
+      let rows : Rows body =
+      both_rows _ _ _ _ (mode_rows M is.machine is.machine_is) (mode_rows U is.others is.others_is) in
       subst (HoldsFor script) (sym is.text_is) (record {
         rows = rows_in rows.entries;
         policy_means = λ moments are.
-            meaning (AreMoments script) (λ row. (pace : Pace) → IsVerdict pace script row Holds) moments are body rows
+            meaning (AreMoments script) (Kept script) moments are body rows
             (rw is.text_is at short);
         hold = λ pace. All-from_recursion (λ row. IsVerdict pace script row Holds) (rows_in rows.entries)
             (all_kept rows.entries pace rows.are);

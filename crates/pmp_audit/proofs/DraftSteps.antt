@@ -1,8 +1,7 @@
 -- The rows of a draft, range by range and part by part.
 use Rattle.std.proofs.Common.{◌≡◌, ℕ, ◌+◌, ◌≤◌, List, [], ◌∷◌, ◌++◌, Some, None, refl, sym, ap, subst, ◌∙◌, arith}
 use Rattle.std.proofs.Common.{append_assoc}
-use Rattle.std.proofs.Common.{append-nil, Result, Ok, Err}
-use Rattle.std.specs.Prelude.{IfOk}
+use Rattle.std.proofs.Common.{append-nil}
 use Rattle.std.specs.List.{flat_map}
 use Rattle.std.proofs.lemmas.List.Concat.{flat_map-append}
 use Rattle.pmp_core.specs.declared.access.Kind.{Kind}
@@ -103,9 +102,3 @@ module _ (file : RegisterFile) (moment before first second third : List ℕ) whe
     appended = behind before first third header_text (machine.text ++ others.text) header
         (behind first second third machine.text others.text machine.appended others.appended);
   }
-
--- what follows from a success holds if there is one
-pub where_ok : {E : Type 0} (Is Also : Type 0) (result : Result (Unit {0}) E) → (Is → Also) → IfOk result (λ _. Is)
-    → IfOk result (λ _. Also)
-where_ok Is Also (Ok done) also is = also is
-where_ok Is Also (Err fault) also is = tt

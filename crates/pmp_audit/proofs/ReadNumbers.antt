@@ -47,37 +47,27 @@ plain_digits (byte ∷ rest) are = elim (cases_Bool (is_digit byte 16)) [
   | inr other ↦ absurd (let t : false ≡ true = rw other at are in cc)
 ]
 
-all_digits : (radix : ℕ) (word : List ℕ) → AllDigits radix word → list_all (λ byte. is_digit byte radix) word ≡ true
-all_digits radix [] are = refl
-all_digits radix (byte ∷ rest) (here, more) = and_from _ _ (lt-ltb _ _ here) (all_digits radix rest more)
-
-more_digits : (word : List ℕ) → AllDigits 10 word → AllDigits 16 word
-more_digits [] are = are
-more_digits (byte ∷ rest) (here, more) = (omega (arith, here), more_digits rest more)
+-- digits are also digits of a greater base
+all_digits : (radix wide : ℕ) (word : List ℕ) → radix ≤ wide → AllDigits radix word
+    → list_all (λ byte. is_digit byte wide) word ≡ true
+all_digits radix wide [] within are = refl
+all_digits radix wide (byte ∷ rest) within (here, more) =
+    and_from _ _ (lt-ltb _ _ (omega (arith, here, within))) (all_digits radix wide rest within more)
 
 -- ---- hexadecimal
-
-module _ (turns value : ℕ) (behind : List ℕ) where
-  abbrev later_digits : List ℕ
-  later_digits = digits_onto turns 16 false (value / 16) (digit_glyph false (value % 16) ∷ behind)
-
-  at_most : (most : ℕ) → 1 + length behind ≤ most → ((value / 16 == 0) ≡ false → length later_digits ≤ most)
-      → length (digits_onto (suc turns) 16 false value behind) ≤ most
-  at_most most one later = elim (cases_Bool (value / 16 == 0)) [
-    | inl last ↦ rw last (omega (arith, one))
-    | inr more ↦ rw more (later more)
-  ]
 
 few : (count turns value : ℕ) (behind : List ℕ) → value < 16 ^ suc count
     → length (digits_onto turns 16 false value behind) ≤ suc count + length behind
 few count zero value behind below = omega arith
-few zero (suc turns) value behind below = at_most turns value behind _ (omega arith) (λ more.
-    let none : value / 16 ≡ 0 = omega (arith, below) in
-    absurd (let t : true ≡ false = sym (eq-eqb _ 0 none) ∙ more in cc))
-few (suc count) (suc turns) value behind below = at_most turns value behind _ (omega arith) (λ more.
+few zero (suc turns) value behind below =
+    let last : (value / 16 == 0) ≡ true = eq-eqb _ 0 (omega (arith, below)) in rw last (omega arith)
+few (suc count) (suc turns) value behind below =
     let next : value / 16 < 16 ^ suc count = omega (arith, below, pow-suc 16 (suc count)) in
     let short = few count turns (value / 16) (digit_glyph false (value % 16) ∷ behind) next in
-    omega (arith, short))
+    elim (cases_Bool (value / 16 == 0)) [
+      | inl last ↦ rw last (omega arith)
+      | inr more ↦ rw more (omega (arith, short))
+    ]
 
 few_digits : (address : ℕ) → address < 2 ^ 56 → length (digits 16 false address) ≤ 14
 unfolding digits
@@ -125,7 +115,7 @@ module _ (address : ℕ) (inside : address < 2 ^ 56) where
   text_is = zeros_before address ∙ ap (λ (l : List ℕ). replicate zeros 48 ++ l) (append-nil own)
 
   are_digits : list_all (λ byte. is_digit byte 16) (address_text address) ≡ true
-  are_digits = rw text_is (digits_behind_zeros zeros own (all_digits 16 own (own_is.0)))
+  are_digits = rw text_is (digits_behind_zeros zeros own (all_digits 16 16 own (omega arith) (own_is.0)))
 
   value_is : digits_value 16 (address_text address) ≡ address
   value_is = rw text_is (value_behind_zeros zeros own ∙ own_is.2)
@@ -164,8 +154,7 @@ module _ (number : ℕ) (below : number < 2 ^ 64) where
   decimal_read =
       rw (no_prefix (decimal number) (is_numeral_of.0)) (numeral_is 10 20 (decimal number) number (is_numeral_of.1)
       (length-decimal-le 20 number (omega arith) (omega (arith, below)) below)
-      (all_digits 10 (decimal number) (is_numeral_of.0)) (is_numeral_of.2) below)
+      (all_digits 10 10 (decimal number) (omega arith) (is_numeral_of.0)) (is_numeral_of.2) below)
 
   pub decimal_plain : Plain (decimal number)
-  decimal_plain = plain_digits (decimal number)
-      (all_digits 16 (decimal number) (more_digits (decimal number) (is_numeral_of.0)))
+  decimal_plain = plain_digits (decimal number) (all_digits 10 16 (decimal number) (omega arith) (is_numeral_of.0))

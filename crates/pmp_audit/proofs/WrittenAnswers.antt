@@ -38,6 +38,25 @@ module _ {A : Type 0} (Says : A → List ℕ → Type 0) (before after : Option 
     refused (Err fault) (inr (given, is, output, front)) =
         rw output (record { answer = given; text = text; says = rw is at good; front = front })
 
+-- a text was made from nothing, and written, or it was declined to
+module _ {A : Type 0} (Says : A → List ℕ → Type 0) (start after held : List ℕ) (made : Result A AuditFault)
+    (before next : Option (List ℕ)) where
+  pub written_so : (result : Result A AuditFault)
+      → IfOk result (λ given. (made ≡ Ok given) × Appends before next held) → IfOk made (IsAppended Says start after)
+      → start ≡ [] → held ≡ after → IfOk result (IsWritten Says before next)
+  written_so result told it empty same =
+      answered Says before next held made (whole Says start after held made it empty same) result told
+
+  pub refused_so : (Refuses : AuditFault → Type 0) (result : Result A AuditFault)
+      → IfErr result (λ fault. ((made ≡ Err fault) × Keeps before next)
+      ⊎ ((given : A) × (made ≡ Ok given) × (fault ≡ Output) × AppendsBeginning before next held))
+      → IfOk made (IsAppended Says start after) → start ≡ [] → held ≡ after → IfErr made (Declines Refuses)
+      → (Refuses Output → ⊥) → IfErr result (IsRefused Says before next Refuses)
+  refused_so Refuses result told it empty same bad never = refused Says before next held made
+      (whole Says start after held made it empty same) Refuses never bad result told
+
+pub ruleset answer_rules = (written_so, refused_so)
+
 -- where each text that goes with an answer so also goes with it otherwise
 module _ {A : Type 0} (Says Also : A → List ℕ → Type 0)
     (also : (answer : A) (text : List ℕ) → Says answer text → Also answer text) (before after : Option (List ℕ)) where

@@ -30,6 +30,7 @@ const HEADER: &[u8] = b"from,to,modes,kind,first,last,demand\n";
 /// row holds for this script. A person takes out what isn't meant to stay so.
 ///
 /// The text is complete before its first byte is written, so every refusal but `Output` leaves the output untouched.
+#[tactic(auto, using(crate::proofs::WrittenAnswers::answer_rules))]
 #[inline(never)]
 pub fn policy_from<W: Write>(alloc: Global, script: &[u8], writer: &mut W) -> Result<(), AuditFault>
     ensures ok { IfOk result
