@@ -25,6 +25,8 @@ pub mod LastingMoments
 pub mod PolicySteps
 pub mod PolicySweep
 pub mod PolicyVerdicts
+pub mod PolicyBegun
+pub mod PolicyTold
 pub mod OneListOfBreaches
 pub mod OnePolicyAnswer
 pub mod Differences

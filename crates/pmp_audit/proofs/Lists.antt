@@ -1,5 +1,5 @@
 -- Lists side by side.
-use Rattle.std.proofs.Common.{◌≡◌, List, [], ◌∷◌, ap, length, refl, suc}
+use Rattle.std.proofs.Common.{◌≡◌, List, [], ◌∷◌, ◌++◌, ap, length, refl, suc}
 use Rattle.std.specs.List.{AllZip}
 
 module _ {A B : Type 0} (R : A → B → Type 0) where
@@ -21,3 +21,10 @@ module _ {A B : Type 0} (R : A → B → Type 0) where
   same_length [] (y ∷ ys) are = absurd are
   same_length (x ∷ xs) [] are = absurd are
   same_length (x ∷ xs) (y ∷ ys) are = ap suc (same_length xs ys are.1)
+
+  pub one_more_beside : (xs : List A) (ys : List B) (x : A) (y : B) → AllZip R xs ys → R x y
+      → AllZip R (xs ++ x ∷ []) (ys ++ y ∷ [])
+  one_more_beside [] [] x y are is = (is, tt)
+  one_more_beside [] (z ∷ ys) x y are is = absurd are
+  one_more_beside (z ∷ xs) [] x y are is = absurd are
+  one_more_beside (w ∷ xs) (z ∷ ys) x y are is = (are.0, one_more_beside xs ys x y are.1 is)

@@ -50,9 +50,9 @@ one_list_of_breaches pace script row one other is too =
     let states = state_after pace script in
     let from = step_count pace script.batches row.from in
     let to = step_count pace script.batches row.to in
-    let more : is.more ≡ too.more = omega (arith, is.until, too.until) in
-    let found : is.found ≡ too.found = one_list_begun states row from too.more is.found too.found
-    (rw more at is.found_are) too.found_are in
+    let more : is.found_are.more ≡ too.found_are.more = omega (arith, is.found_are.until, too.found_are.until) in
+    let found : is.found ≡ too.found = one_list_begun states row from too.found_are.more is.found too.found
+    (rw more at is.found_are.begun) too.found_are.begun in
     let loose : is.loose ≡ too.loose = one_list_loose row.demand too.found (states to) row to is.loose too.loose
     (rw found at is.loose_are) too.loose_are in
     is.all_is ∙ (λ i. found i ++ loose i) ∙ sym too.all_is

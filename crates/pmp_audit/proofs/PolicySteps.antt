@@ -4,7 +4,7 @@ use Rattle.std.proofs.Common.{◌∙◌, arith}
 use Rattle.std.specs.Prelude.{slice_index_or}
 use Rattle.std.proofs.Math.Seq.{take-add}
 use Rattle.std.proofs.lemmas.Grind.{flat_map-append}
-use Rattle.std.proofs.lemmas.List.{drop_more, get_or-map, length-append, length-map}
+use Rattle.std.proofs.lemmas.List.{drop_more, get_or-map, length-append, length-map, take_all}
 use Rattle.pmp_core.specs.declared.event.Event.{Event}
 use Rattle.pmp_core.specs.declared.event.Event.TheVariants.{Reset}
 use Rattle.pmp_core.specs.Histories.{joined}
@@ -46,3 +46,12 @@ no_fewer Events batches from to forward =
     (flat_map-append (λ batch. batch) (take from batches) (take more (drop from batches)))
     ∙ length-append (joined (take from batches)) (joined (take more (drop from batches))) in
     omega (arith, events)
+
+-- the first publications take no more steps than there are
+pub steps_within : (pace : Pace) (batches : List (List Event)) (publications : ℕ) → publications ≤ length batches
+    → step_count pace batches publications ≤ length (steps_of pace batches)
+steps_within Publications batches publications within = within
+steps_within Events batches publications within =
+    let fewer = no_fewer Events batches publications (length batches) within in
+    let all : take (length batches) batches ≡ batches = take_all _ _ (omega arith) in
+    omega (arith, fewer, ap (λ (l : List (List Event)). length (joined l)) all, length-map (joined batches) alone)

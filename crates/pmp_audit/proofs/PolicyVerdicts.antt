@@ -5,7 +5,6 @@ use Rattle.std.specs.Prelude.{All, count_by, slice_get, zip}
 use Rattle.std.specs.List.{AllZip, enumerate_from, flat_map, position_from}
 use Rattle.std.specs.Option.{option_or}
 use Rattle.std.proofs.lemmas.List.{append-nil, flat_map_more, length-append, length-map, map-append, take_more}
-use Rattle.std.proofs.lemmas.List.Elements.{AllZip-push}
 use Rattle.std.proofs.lemmas.List.Sums.{sum_by_push}
 use Rattle.pmp_text.specs.declared.lines.verdict.Verdict.{Verdict}
 use Rattle.pmp_text.specs.Moments.{KnownMoments}
@@ -27,7 +26,7 @@ use Rattle.pmp_audit.specs.Moments.{AreMoments}
 use Rattle.pmp_audit.specs.PolicyRows.{AreWritten, IsToldOf}
 use Rattle.pmp_audit.specs.PolicySweep.{rows_of, told_of, verdicts_of}
 use Rattle.pmp_audit.specs.PolicyTexts.{PolicySays, policy_summary, told_rows, told_text}
-use Rattle.pmp_audit.proofs.Lists.{same_length}
+use Rattle.pmp_audit.proofs.Lists.{one_more_beside, same_length}
 
 -- what is told of the row at this place
 abbrev rows_at : List LabelText → (index : ℕ) → List Verdict → List ℕ
@@ -110,7 +109,7 @@ module _ (Is : Judged → List Verdict → Type 0) (judged : List Judged) (label
         let last = rows_at labels (length so_far.told) told in
         record {
           told = so_far.told ++ told ∷ [];
-          told_are = AllZip-push Is judged so_far.told one told so_far.told_are is;
+          told_are = one_more_beside Is judged so_far.told one told so_far.told_are is;
           text_is = appended
               ∙ ap (λ (n : ℕ). held ++ told_rows n (slice_get labels summary.rows) told) all.0
               ∙ ap (λ (n : ℕ). held ++ rows_at labels n told) place ∙ ap (λ l. l ++ last) so_far.text_is

@@ -12,9 +12,12 @@ use Rattle.pmp_lint.specs.Accepting.{are_named, is_accepted}
 abbrev pub differs_text : List ℕ
 differs_text = codes "differs"
 
+abbrev pub is_write_reason : (name : List ℕ) → Bool
+is_write_reason name = list_any (λ reason. bytes_eq (reason_text reason) name) all_reasons
+
 -- the reasons of writes, and that a value isn't the expected one, as in rows
 abbrev pub is_reason_word : (name : List ℕ) → Bool
-is_reason_word name = bytes_eq name differs_text || list_any (λ reason. bytes_eq (reason_text reason) name) all_reasons
+is_reason_word name = bytes_eq name differs_text || is_write_reason name
 
 -- each of the words says such a reason
 abbrev pub are_reasons : (words : List ℕ) → Bool

@@ -66,12 +66,16 @@ AreLoose Held (breach ∷ found) last row to more = more ≡ []
 AreLoose Never found last row to more = more ≡ []
 AreLoose Always found last row to more = more ≡ []
 
--- the row's breaches, in time and then in address
-pub record AreBreachesOf (pace : Pace) (script : ScriptContents) (row : PolicyRow) (all : List Breach) : Type 0 where
-  pub found : List Breach
+-- the breaches by bytes that are open, or closed, in time and then in address
+pub record AreFound (pace : Pace) (script : ScriptContents) (row : PolicyRow) (all : List Breach) : Type 0 where
   pub more : ℕ
   pub until : step_count pace script.batches row.from + more ≡ step_count pace script.batches row.to
-  pub found_are : AreBegun (state_after pace script) row (step_count pace script.batches row.from) more found
+  pub begun : AreBegun (state_after pace script) row (step_count pace script.batches row.from) more all
+
+-- the row's breaches
+pub record AreBreachesOf (pace : Pace) (script : ScriptContents) (row : PolicyRow) (all : List Breach) : Type 0 where
+  pub found : List Breach
+  pub found_are : AreFound pace script row found
   pub loose : List Breach
   pub loose_are : AreLoose row.demand found (state_after pace script (step_count pace script.batches row.to)) row
       (step_count pace script.batches row.to) loose

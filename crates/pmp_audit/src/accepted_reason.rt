@@ -1,8 +1,8 @@
 //! Accepted reasons why registers may differ from what a script writes or expects.
 
 ghost use Rattle.std.specs.Prelude.{◌≡◌};
-ghost use Rattle.std.specs.List.{list_all, list_any};
-ghost use Rattle.pmp_audit.specs.AcceptedReasons.{are_reasons, has_other_reason, is_reason_word};
+ghost use Rattle.pmp_lint.specs.Accepting.{says_name};
+ghost use Rattle.pmp_audit.specs.AcceptedReasons.{are_reasons, has_other_reason, is_reason_word, is_write_reason};
 
 use pmp_core::{Csr, RegFile, WriteReason};
 use pmp_lint::{NameAt, is_accepted};
@@ -11,23 +11,36 @@ use pmp_text::reason_word;
 /// The reason of an expected value that isn't what the register reads, as rows write it.
 pub const DIFFERS: &[u8] = b"differs";
 
-/// Whether rows write such a reason: of a write that isn't stored as written, or `differs`.
+/// Whether it is the word of a reason why a write isn't stored as written.
+fn is_write_reason(name: &[u8]) -> bool
+    ensures { result ≡ is_write_reason name.now }
+{
+    WriteReason::ALL
+        .iter()
+        .any(|reason| reason_word(*reason).as_bytes() == name)
+}
+
+/// Whether rows write such a reason: of a write, or `differs`.
 fn is_reason_word(name: &[u8]) -> bool
     ensures { result ≡ is_reason_word name.now }
 {
-    name == DIFFERS
-        || WriteReason::ALL
-            .iter()
-            .any(|reason| reason_word(*reason).as_bytes() == name)
+    name == DIFFERS || is_write_reason(name)
 }
 
-/// Whether each of the words, which commas separate, is `REASON` or `REASON:LINE`, with a reason as rows write it.
+/// Whether a word is `REASON` or `REASON:LINE`, with a reason as rows write it.
+fn is_reason(word: &[u8]) -> bool
+    ensures { result ≡ says_name is_reason_word word.now }
+{
+    NameAt::read(word).is_some_and(|it| is_reason_word(it.name))
+}
+
+/// Whether each of the words, which commas separate, is.
 pub fn are_reasons(words: &[u8]) -> bool
     ensures { result ≡ are_reasons words.now }
 {
-    words.split(|byte| *byte == b',').all(|word| NameAt::read(word).is_some_and(|it| is_reason_word(
-        it.name,
-    )))
+    words
+        .split(|byte| *byte == b',')
+        .all(|word| is_reason(word))
 }
 
 /// Whether a reason why the register wouldn't read the value, if it were written now, isn't accepted at the line.

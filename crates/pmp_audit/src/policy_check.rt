@@ -15,7 +15,7 @@ ghost use Rattle.pmp_audit.specs.PolicyRows.{AreWritten, IsToldOf};
 ghost use Rattle.pmp_audit.specs.PolicySweep.{rows_of, told_of};
 ghost use Rattle.pmp_audit.specs.PolicyTexts.{PolicySays, told_rows};
 
-mod breaches;
+mod breach_list;
 mod question;
 mod search;
 mod steps;
@@ -24,7 +24,7 @@ mod sweep;
 use crate::answer::write_answer;
 use crate::fault::AuditFault;
 use crate::moments::moments_of;
-use crate::policy_check::breaches::breaches_of;
+use crate::policy_check::breach_list::breaches_of;
 use crate::policy_check::steps::Steps;
 use crate::policy_check::sweep::{Judged, judge, judge_rows};
 use pmp_text::{
@@ -180,6 +180,13 @@ fn write_verdicts(
     Ok(summary)
 }
 
+/// Returns the label of the row at this index, from 0, if it has one.
+fn label_at(labels: &[Label], index: u64) -> Option<&Label>
+    ensures { option_map label_text (option_copied result) ≡ slice_get (map label_text labels.now) index }
+{
+    labels.get(index as usize)
+}
+
 /// Appends what is told of the row at this index, from 0, with the label that it has there, if any.
 fn write_told(
     alloc: Global,
@@ -196,13 +203,17 @@ fn write_told(
         × (out.new.items ≡ out.old.items
         ++ told_rows (index + 1) (slice_get (map label_text labels.now) index) told)) }
 {
-    let label = labels.get(index as usize);
+    let label = label_at(labels, index);
     match (breaches, one.told()) {
         (Breaches::All, Verdict::Broken(_)) => {
             let all = breaches_of(alloc, steps, &one.row)?;
             write_breaches(out, index + 1, &all, label)
         }
-        (_, verdict) => write_verdict(out, index + 1, verdict, label),
+        (Breaches::All, Verdict::Holds) => write_verdict(out, index + 1, Verdict::Holds, label),
+        (Breaches::All, Verdict::Unmet(is_waived)) => {
+            write_verdict(out, index + 1, Verdict::Unmet(is_waived), label)
+        }
+        (Breaches::First, verdict) => write_verdict(out, index + 1, verdict, label),
     }
 }
 

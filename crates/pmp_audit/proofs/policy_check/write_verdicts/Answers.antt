@@ -1,7 +1,7 @@
 use Rattle.std.proofs.Common.{map, take, arith}
 use Rattle.std.proofs.lemmas.List.{get_or-map, length-map, length-take-le}
 use Rattle.pmp_text.specs.Labels.{label_text}
-use Rattle.pmp_audit.specs.PolicyRows.{IsToldOf}
+use Rattle.pmp_audit.specs.declared.policy_check.sweep.Judged.{Judged}
 use Rattle.pmp_audit.proofs.PolicyVerdicts.{none_written, one_row_more, one_written, rows_so_far}
 use Rattle.pmp_audit.proofs.policy_check.write_verdicts.Goals as goal
 
@@ -29,3 +29,12 @@ loop-one-preserved c =
     (one_written _ (take i all) (map label_text c.args.labels.now) c.args.out.now.items c.loop-one.out.items
     c.loop-one.summary c.loop-one.invariant c.one-item.result c.write_told.new.out.items c.count.new.self told is
     (rw (← c.count.ensures.rows) at text) (c.count.ensures.rows, c.count.ensures.broken, c.count.ensures.bare))
+
+pub write_told-requires-clause-within : goal.write_told-requires-clause-within
+write_told-requires-clause-within c =
+    let i = c.loop-one.one-index in
+    let all = c.args.judged.now in
+    let one = c.one-item.result in
+    let inside = c.loop-one-test.true in
+    rw (get_or-map (λ (j : Judged). j.row) all i one one.row inside, ← c.one-item.is) at
+    (c.requires i one.row (omega (arith, inside, length-map all (λ (j : Judged). j.row))))

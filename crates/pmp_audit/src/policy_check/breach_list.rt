@@ -2,7 +2,7 @@
 
 ghost use Rattle.std.specs.Prelude.{◌≡◌, ◌++◌, ◌<◌, ◌≤◌, [], IfOk, IfSome, OnOk, length};
 ghost use Rattle.std.specs.List.{list_any};
-ghost use Rattle.pmp_audit.specs.PolicyBreaches.{AreBreachesOf, AreHits, begun, has_bytes, hit_of};
+ghost use Rattle.pmp_audit.specs.PolicyBreaches.{AreBreachesOf, AreFound, AreHits, begun, has_bytes, hit_of};
 
 use crate::policy_check::question::Question;
 use crate::policy_check::steps::Steps;
@@ -74,14 +74,10 @@ fn add_begun(
     Ok(())
 }
 
-/// Returns the row's breaches, in time and then in address.
-pub fn breaches_of(
-    alloc: Global,
-    steps: &Steps<'_>,
-    row: &PolicyRow,
-) -> Result<Vec<Breach>, AllocError>
+/// Returns the row's breaches by bytes that are open, or closed, in time and then in address.
+fn found_of(alloc: Global, steps: &Steps<'_>, row: &PolicyRow) -> Result<Vec<Breach>, AllocError>
     requires { row.now.to ≤ length steps.now.script.now.batches }
-    ensures { IfOk result (λ all. AreBreachesOf steps.now.pace steps.now.script.now row.now all.items) }
+    ensures { IfOk result (λ all. AreFound steps.now.pace steps.now.script.now row.now all.items) }
 {
     let to = steps.count(row.to);
     let mut state = steps.state_at(steps.count(row.from));
@@ -94,8 +90,23 @@ pub fn breaches_of(
         add_begun(&mut all, state.done, &before, &now)?;
         before = now;
     }
+    Ok(all)
+}
+
+/// Returns the row's breaches, in time and then in address: of `held`, if there are none by open bytes, those by locks.
+pub fn breaches_of(
+    alloc: Global,
+    steps: &Steps<'_>,
+    row: &PolicyRow,
+) -> Result<Vec<Breach>, AllocError>
+    requires { row.now.to ≤ length steps.now.script.now.batches }
+    ensures { IfOk result (λ all. AreBreachesOf steps.now.pace steps.now.script.now row.now all.items) }
+{
+    let mut all = found_of(alloc, steps, row)?;
     if row.demand == Demand::Held && all.is_empty() {
-        let loose = hits_of(alloc, Question::IsNotHeld, &state.file, row)?;
+        let to = steps.count(row.to);
+        let last = steps.state_at(to);
+        let loose = hits_of(alloc, Question::IsNotHeld, &last.file, row)?;
         add_begun(&mut all, to, &[], &loose)?;
     }
     Ok(all)
