@@ -80,7 +80,7 @@ test:
 	    'checks/program $(PROGRAM)' \
 	    'checks/audits $(PROGRAM)' \
 	    'checks/examples $(PROGRAM)' \
-    'checks/formats $(PROGRAM)' \
+	    'checks/formats $(PROGRAM)' \
 	    checks/launcher \
 	    'release/documents --check' \
 	    'checks/documents $(PROGRAM)' \
