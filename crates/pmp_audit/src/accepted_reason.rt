@@ -1,8 +1,9 @@
 //! Accepted reasons why registers may differ from what a script writes or expects.
 
 ghost use Rattle.std.specs.Prelude.{◌≡◌};
-ghost use Rattle.pmp_lint.specs.Accepting.{says_name};
-ghost use Rattle.pmp_audit.specs.AcceptedReasons.{are_reasons, has_other_reason, is_reason_word, is_write_reason};
+ghost use Rattle.pmp_audit.specs.AcceptedReasons.{
+    are_reasons, has_other_reason, is_reason_word, is_write_reason, says_reason,
+};
 
 use pmp_core::{Csr, RegFile, WriteReason};
 use pmp_lint::{NameAt, is_accepted};
@@ -29,7 +30,7 @@ fn is_reason_word(name: &[u8]) -> bool
 
 /// Whether a word is `REASON` or `REASON:LINE`, with a reason as rows write it.
 fn is_reason(word: &[u8]) -> bool
-    ensures { result ≡ says_name is_reason_word word.now }
+    ensures { result ≡ says_reason word.now }
 {
     NameAt::read(word).is_some_and(|it| is_reason_word(it.name))
 }
