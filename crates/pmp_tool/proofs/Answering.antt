@@ -48,14 +48,14 @@ pub bytes_given : (known remaining : Option (List ℕ)) (bytes : List ℕ) → G
 bytes_given None remaining bytes gives are = tt
 bytes_given (Some those) remaining bytes gives are = subst (λ left. AreBytesOf left bytes) gives are
 
-nothing_said : {Is : PolicyRow × Verdict → List Verdict → Type 0} (labels : List LabelText) (rows : List PolicyRow)
+nothing_said : (Is : PolicyRow × Verdict → List Verdict → Type 0) (labels : List LabelText) (rows : List PolicyRow)
     (verdicts : List Verdict) (told : List (List Verdict)) → length verdicts ≡ 0 → AllZip Is (zip rows verdicts) told
     → told_text labels told ≡ []
 unfolding told_text
-nothing_said labels rows verdicts [] none are = refl
-nothing_said labels [] [] (some ∷ told) none are = absurd are
-nothing_said labels (row ∷ rows) [] (some ∷ told) none are = absurd are
-nothing_said labels rows (verdict ∷ more) (some ∷ told) none are = absurd (omega (arith, none))
+nothing_said Is labels rows verdicts [] none are = refl
+nothing_said Is labels [] [] (some ∷ told) none are = absurd are
+nothing_said Is labels (row ∷ rows) [] (some ∷ told) none are = absurd are
+nothing_said Is labels rows (verdict ∷ more) (some ∷ told) none are = absurd (omega (arith, none))
 
 nothing_written : (before after : Option (List ℕ)) → Appends before after [] → Keeps before after
 nothing_written None after appends = tt
@@ -69,5 +69,5 @@ pub nothing_judged : {breaches : Breaches} {pace : Pace} {script policy : List �
 nothing_judged {policy = policy} summary text says none before after written =
     let count : length says.verdicts ≡ 0 = sym (ap (λ (summary : PolicySummary). summary.rows) says.counted) ∙ none in
     nothing_written before after
-    (rw (says.text_is, nothing_said (policy_labels policy) says.rows says.verdicts says.told count says.told_are)
-    at written)
+    (rw (says.text_is, nothing_said _ (policy_labels policy) says.rows says.verdicts says.told count
+    says.told_are) at written)

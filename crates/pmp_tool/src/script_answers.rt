@@ -19,10 +19,10 @@ pub fn answer_writes<O: Write>(
     accepted: &str,
     out: &mut O,
 ) -> Result<Outcome, Failure>
-    ensures ok { (paths : Paths) → IfOk result (IsWritten (RequestSays paths script.now (request.Writes accepted))
+    ensures ok { (paths : Paths) → IfOk result (IsWritten (RequestSays paths script.now (request.Writes accepted.entry))
         (O.contents out.old) (O.contents out.new)) }
     ensures err { (paths : Paths) → IfErr result (RequestFails (O.contents out.old) (O.contents out.new) paths
-        script.now (request.Writes accepted)) }
+        script.now (request.Writes accepted.entry)) }
 {
     let told = writes(alloc, script, accepted.as_bytes(), out)?;
     Ok(Outcome::Replayed(told))
@@ -35,10 +35,10 @@ pub fn answer_lint<O: Write>(
     accepted: &str,
     out: &mut O,
 ) -> Result<Outcome, Failure>
-    ensures ok { (paths : Paths) → IfOk result (IsWritten (RequestSays paths script.now (request.Lint accepted))
+    ensures ok { (paths : Paths) → IfOk result (IsWritten (RequestSays paths script.now (request.Lint accepted.entry))
         (O.contents out.old) (O.contents out.new)) }
     ensures err { (paths : Paths) → IfErr result (RequestFails (O.contents out.old) (O.contents out.new) paths
-        script.now (request.Lint accepted)) }
+        script.now (request.Lint accepted.entry)) }
 {
     let told = lint(alloc, script, accepted.as_bytes(), out)?;
     Ok(Outcome::Found(told as u64))
