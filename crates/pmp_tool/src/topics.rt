@@ -163,8 +163,9 @@ for each row of the trace, in order.
 or `N,broken,DONE,FIRST,LAST,OWNER` with only its first breach, by time, then
 address, or `N,unmet,,,,`; then, if the header has them, `,NAME,COMMENT`. With
 `--all` a broken row has a row for each breach, where it begins: for each run of
-bytes with one owner that breaks it, unless it broke it after one publication
-(or event) less too.
+bytes with one owner that breaks it, unless a run with the same first and last
+byte did so after one publication (or event) less. Missing locks of `held` are
+told only if none of the row's bytes is open at any moment.
 
   1,broken,0,00000000000000,0000000000000f,-
 
@@ -323,8 +324,9 @@ how an access is decided, since when, and what the deciding entry is.
                                otherwise empty
 
 If no entry decides, the fields from ENTRY on are empty. Then come report rows
-of the same access, one for each series of moments with the same ANSWER, CAUSE
-and ENTRY. N is the first of them; 0 is before the first publication.
+of the same access, up to the script's end, one for each series of moments with
+the same ANSWER, CAUSE and ENTRY. N is the first of them; 0 is before the first
+publication.
 
 `pmp check` writes `N,ANSWER,FAULT,CAUSE,ENTRY` for its access, and `pmp audit`
 for each row of the trace, in order.
@@ -455,8 +457,9 @@ a later boot may break.
 or `N,broken,DONE,FIRST,LAST,OWNER` with only its first breach, by time, then
 address, or `N,unmet,,,,`; then, if the header has them, `,NAME,COMMENT`. With
 `--all` a broken row has a row for each breach, where it begins: for each run of
-bytes with one owner that breaks it, unless it broke it after one publication
-(or event) less too.
+bytes with one owner that breaks it, unless a run with the same first and last
+byte did so after one publication (or event) less. Missing locks of `held` are
+told only if none of the row's bytes is open at any moment.
   N              the row's number, from 1
   DONE           after how many publications it is broken; if only the locks of
                  held are missing, the last of those that the row asks about.
@@ -646,7 +649,7 @@ each event of the script, in order, and then for each `expect`, by line.
                a reason, ascending, separated by spaces
 
 The status is 1 if a write isn't `stored` or an `expect` `differs`. With
-`--accept REASON` writes that have only this reason don't count, with `--accept
+`--accept REASON` writes that have no other reason don't count, with `--accept
 differs` no `expect` does, and with `:LINE` behind the word only that line
 doesn't. Commas separate several, as `bits:7,absent`. No row is left out.
   absent    the value isn't 0 for an entry, or for mseccfg or mseccfgh, that the
@@ -707,10 +710,10 @@ at LINE, and commas separate several.
   5 write-and-execute   in the end a mode may both write and execute these
                         adjacent bytes of one owner, or of none. Take W or X
                         away, or part the bytes into code and data.
-  6 open-between        S and U may read, write or execute these bytes after a
-                        single event, but neither before its publication nor
-                        after it. Write the entry that closes the bytes before
-                        the one that opens others.
+  6 open-between        S and U have a right to these bytes after a single event
+                        that they have neither before its publication nor after
+                        it. Write the entry that closes the bytes before the one
+                        that opens others.
   7 late-write          a frozen entry is a reason why a register doesn't read
                         what is written to it. Write the register before the
                         entry is locked, or leave the write out.
