@@ -2,7 +2,11 @@
 
 ghost use Rattle.std.specs.Prelude.{◌≡◌};
 ghost use Rattle.pmp_audit.specs.AcceptedReasons.{
-    are_reasons, has_other_reason, is_reason_word, is_write_reason, says_reason,
+  are_reasons,
+  has_other_reason,
+  is_reason_word,
+  is_write_reason,
+  says_reason,
 };
 
 use pmp_core::{Csr, RegFile, WriteReason};
