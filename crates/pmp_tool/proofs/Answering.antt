@@ -69,5 +69,8 @@ pub nothing_judged : {breaches : Breaches} {pace : Pace} {script policy : List �
 nothing_judged {policy = policy} summary text says none before after written =
     let count : length says.verdicts ≡ 0 = sym (ap (λ (summary : PolicySummary). summary.rows) says.counted) ∙ none in
     nothing_written before after
-    (rw (says.text_is, nothing_said _ (policy_labels policy) says.rows says.verdicts says.told count
-    says.told_are) at written)
+    (rw (
+      says.text_is,
+      nothing_said _ (policy_labels policy) says.rows says.verdicts says.told count
+          says.told_are,
+    ) at written)
