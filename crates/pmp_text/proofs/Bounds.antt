@@ -1,6 +1,6 @@
 -- A script has no more events, and no more publications, than the limit.
-use Rattle.std.proofs.Common.{◌≡◌, ℕ, ◌+◌, ◌<◌, ◌≤◌, Bool, true, false, cond, ltb, List, [], ◌∷◌, length}
-use Rattle.std.proofs.Common.{Option, Some, None, Result, Ok, Err, refl, sym, ◌∙◌, arith, subst}
+use Rattle.std.proofs.Common.{◌≡◌, ℕ, ◌+◌, ◌<◌, ◌≤◌, Bool, true, false, cond, ltb, List, [], ◌∷◌, length, Option, Some}
+use Rattle.std.proofs.Common.{None, Result, Ok, Err, refl, sym, ◌∙◌, arith, subst}
 use Rattle.std.specs.Option.{option_or}
 use Rattle.std.proofs.lemmas.Bool.{ltb-true}
 use Rattle.std.proofs.lemmas.List.{length-append}
@@ -20,18 +20,17 @@ use Rattle.pmp_text.specs.Flaws.{as_whole}
 use Rattle.pmp_text.specs.Heads.{event_flaw, profile_said}
 use Rattle.pmp_text.specs.Longhand.{in_longhand}
 use Rattle.pmp_text.specs.Marks.{is_in}
-use Rattle.pmp_text.specs.ScriptEvents.{expected_from, first_unpublished, head_lines, marks_from, publications}
-use Rattle.pmp_text.specs.ScriptFaults.{event_fault, first_fault, head_fault, mark_fault, name_fault, publish_fault}
+use Rattle.pmp_text.specs.ScriptEvents.{first_unpublished, publications}
+use Rattle.pmp_text.specs.ScriptFaults.{event_fault, first_fault, name_fault, publish_fault}
 use Rattle.pmp_text.specs.ScriptLines.{Line, said_by}
 use Rattle.pmp_text.specs.Scripts.{fault_or_publications}
 use Rattle.pmp_text.specs.Sizes.{IsInLimits, ScriptSizeLaw, events_in}
-use Rattle.pmp_text.specs.Steps.Progress.{HeadSoFar, Read, Reading, after_statement, all_published, longer_head, nothing_begun}
-use Rattle.pmp_text.specs.Steps.Progress.{read_in, resumed, says_in, unless, with_event, with_expected, with_head, with_mark}
-use Rattle.pmp_text.specs.Steps.Progress.{with_publish}
-use Rattle.pmp_text.proofs.Longhands.{taken}
+use Rattle.pmp_text.specs.Steps.Progress.{Read, Reading, after_statement, all_published, nothing_begun, read_in}
+use Rattle.pmp_text.specs.Steps.Progress.{resumed, with_event, with_publish}
+use Rattle.pmp_text.proofs.Known.{known_fault, line_taken, with_line}
 use Rattle.pmp_text.proofs.MadeScripts.{faultless, is_read, published_in}
 use Rattle.pmp_text.proofs.Meanings.{reads_from_nothing}
-use Rattle.pmp_text.proofs.Resumed.{read_of}
+use Rattle.pmp_text.proofs.Resumed.{read_alone}
 
 -- what was read so far is counted, and within the limits
 record IsCounted (so_far : Reading) : Type 0 where
@@ -91,35 +90,23 @@ module _ (so_far : Reading) (counted : IsCounted so_far) (number : ℕ) where
     few_publications = rw done counted.few_publications;
   }
 
-  with_head_too : (next : Reading) (fault : Option Flaw) (head : HeadSoFar)
-      → with_head so_far (unless number fault head) ≡ Ok next → IsCounted next
-  with_head_too next None head e =
-      let is : record so_far { head = head } ≡ next = cc in
-      subst (λ (r : Reading). IsCounted r) is (same_counts (record so_far { head = head }) refl refl refl)
-  with_head_too next (Some flaw) head e = absurd cc
+  counted_line : (version : Version) (says : Result Statement Flaw) → known_fault version so_far says ≡ None
+      → IsCounted (with_line version so_far number says)
+  counted_line version (Err flaw) e = absurd cc
+  counted_line version (Ok (statement.Publish name)) e =
+      with_publish_too name (room_for_publication (is_in so_far.marks) name so_far.done e)
+  counted_line version (Ok (statement.Mark name)) e = same_counts _ refl refl refl
+  counted_line version (Ok (statement.Event event)) e =
+      with_event_too event (room_for_event (event_flaw version (profile_said so_far.head.lines).is_rv32 event)
+      (length so_far.progress.batch) so_far.events e)
+  counted_line version (Ok (statement.Head says)) e = same_counts _ refl refl refl
+  counted_line version (Ok (statement.Expect register value)) e = same_counts _ refl refl refl
 
   one_line : (version : Version) (next : Reading) (says : Result Statement Flaw)
       → after_statement version so_far number says ≡ Ok next → IsCounted next
-  one_line version next (Err flaw) e = absurd cc
-  one_line version next (Ok (statement.Publish name)) e =
-      let (none, is) = taken number (publish_fault (is_in so_far.marks) name so_far.done) (with_publish so_far name) next e in
-      subst (λ (r : Reading). IsCounted r) is
-      (with_publish_too name (room_for_publication (is_in so_far.marks) name so_far.done none))
-  one_line version next (Ok (statement.Mark name)) e =
-      let (none, is) = taken number (mark_fault (length so_far.progress.batch) (is_in so_far.marks name))
-      (with_mark so_far name) next e in
-      subst (λ (r : Reading). IsCounted r) is (same_counts (with_mark so_far name) refl refl refl)
-  one_line version next (Ok (statement.Event event)) e =
-      let flaw = event_flaw version (profile_said so_far.head.lines).is_rv32 event in
-      let unpublished = length so_far.progress.batch in
-      let (none, is) = taken number (event_fault flaw unpublished so_far.events) (with_event so_far number event) next e in
-      subst (λ (r : Reading). IsCounted r) is (with_event_too event (room_for_event flaw unpublished so_far.events none))
-  one_line version next (Ok (statement.Head says)) e =
-      with_head_too next (head_fault so_far.head.is_over (says_in so_far.head.lines says) says)
-      (longer_head so_far.head number says) e
-  one_line version next (Ok (statement.Expect register value)) e =
-      let is : with_expected so_far number register value ≡ next = cc in
-      subst (λ (r : Reading). IsCounted r) is (same_counts _ refl refl refl)
+  one_line version next says e =
+      let (none, is) = line_taken version so_far number says next e in
+      subst (λ (r : Reading). IsCounted r) is (counted_line version says none)
 
 ended : (so_far : Reading) → IsCounted so_far → (since : Option ℕ) (all : Read)
     → all_published since (read_in so_far) ≡ Ok all → IsInLimits all.published.batches
@@ -159,8 +146,7 @@ size_at_most text script e =
     let more = in_longhand version it.more in
     let fine = faultless (first_fault (it.first ∷ []) more) (first_unpublished version more) (publications version more)
     (published_in script) it.made.published in
-    let all = read_of version (publications version more) (head_lines version more) (expected_from version 0 more)
-    (marks_from version 0 more) in
+    let all = read_alone version more in
     let read : resumed version nothing_begun more ≡ Ok all =
     sym (reads_from_nothing text it.short it.first it.more it.lines version it.named)
     ∙ (λ i. fault_or_publications (fine.0 i) (fine.1 i) all) in

@@ -4,6 +4,7 @@ use Rattle.std.proofs.Common.{get_or, drop, map, Some, None, refl, sym, ap, ◌�
 use Rattle.std.specs.Prelude.{position, filter}
 use Rattle.std.specs.List.{slice_split, before_first, after_first, position_or_len}
 use Rattle.std.specs.Str.Lines.{strip_carriage_return}
+use Rattle.std.proofs.lemmas.Option.{cond_some}
 use Rattle.std.proofs.lemmas.Bool.{ltb-true, ltb-false, lt-ltb, cases_lt, not-true, cond-true}
 use Rattle.std.proofs.Math.ListN.{drop_of_length-le}
 use Rattle.std.proofs.lemmas.List.{take_all, length-take, length-drop, get_or-drop}
@@ -12,16 +13,14 @@ use Rattle.std.proofs.lemmas.List.Sums.{fails_before_first, passes_at_first}
 use Rattle.pmp_text.specs.Lines.{is_blank, is_line_feed, has_bytes, words, without_empty_end, lines}
 
 module _ {X : Type 0} (p : X → Bool) where
-  found : (b : Bool) (n l i : ℕ) → ltb n l ≡ b → cond b (Some n) None ≡ Some i → (n ≡ i) × (i < l)
-  found true n l i t e = let same : n ≡ i = cc in let below = ltb-true n l t in (same, omega arith)
-  found false n l i t e = absurd cc
+  pub position_found : (xs : List X) (i : ℕ) → position p xs ≡ Some i → (position_or_len p xs ≡ i) × (i < length xs)
+  position_found xs i e =
+      let (below, same) = cond_some (ltb (position_or_len p xs) (length xs)) (position_or_len p xs) i e in
+      let inside = ltb-true _ _ below in (same, omega arith)
 
   not_found : (b : Bool) (n l : ℕ) → ltb n l ≡ b → cond b (Some n) None ≡ None → l ≤ n
   not_found true n l t e = absurd cc
   not_found false n l t e = ltb-false n l t
-
-  pub position_found : (xs : List X) (i : ℕ) → position p xs ≡ Some i → (position_or_len p xs ≡ i) × (i < length xs)
-  position_found xs i e = found (ltb (position_or_len p xs) (length xs)) _ _ i refl e
 
   pub position_missed : (xs : List X) → position p xs ≡ None → length xs ≤ position_or_len p xs
   position_missed xs e = not_found (ltb (position_or_len p xs) (length xs)) _ _ refl e

@@ -21,7 +21,6 @@ pub mod Longhands
 pub mod LineCuts
 pub mod MadeScripts
 pub mod Meanings
-pub mod NoExpectations
 pub mod Numbered
 pub mod Picture
 pub mod PlainLines

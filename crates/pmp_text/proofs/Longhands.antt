@@ -1,6 +1,6 @@
 -- Reading lines, each in longhand, gives what is read of their longhand.
-use Rattle.std.proofs.Common.{◌≡◌, ℕ, List, [], ◌∷◌, ◌++◌, drop}
-use Rattle.std.proofs.Common.{Option, Some, None, Result, Ok, Err, refl, sym, ap, ◌∙◌, append_assoc, subst, inl, inr, ◌⊎◌}
+use Rattle.std.proofs.Common.{◌≡◌, List, [], ◌∷◌, ◌++◌, drop, Option, Some, None, Result, Ok, Err, refl, sym, ap, ◌∙◌}
+use Rattle.std.proofs.Common.{append_assoc, subst, inl, inr, ◌⊎◌}
 use Rattle.std.specs.Prelude.{filter_map, fold}
 use Rattle.std.specs.List.{cons_option}
 use Rattle.std.proofs.lemmas.List.{append-nil}
@@ -13,21 +13,16 @@ use Rattle.pmp_core.specs.RegisterWrite.{step}
 use Rattle.pmp_core.specs.declared.size.Size.{Size}
 use Rattle.pmp_text.specs.declared.flaw.Flaw.{Flaw}
 use Rattle.pmp_text.specs.declared.script.ScriptFault.{ScriptFault}
-use Rattle.pmp_text.specs.declared.script.head.HeadLine.{HeadLine}
 use Rattle.pmp_text.specs.declared.script.statement.Statement.{Statement}
 use Rattle.pmp_text.specs.declared.script.statement.Statement.TheVariants as statement
 use Rattle.pmp_text.specs.declared.script.version.Version.{Version}
 use Rattle.pmp_text.specs.declared.script.version.Version.TheVariants.{Sized, Headed}
-use Rattle.pmp_text.specs.Heads.{event_flaw, profile_said}
 use Rattle.pmp_text.specs.EventLogs.{Kept}
 use Rattle.pmp_text.specs.Lines.{words}
-use Rattle.pmp_text.specs.Longhand.{file_behind, file_said, in_longhand, in_place, longhand, longhand_from}
-use Rattle.pmp_text.specs.Longhand.{written_out}
+use Rattle.pmp_text.specs.Longhand.{file_behind, file_said, in_longhand, in_place, longhand, longhand_from, written_out}
 use Rattle.pmp_text.specs.Outcomes.{Gives, out_of_memory}
 use Rattle.pmp_text.specs.declared.script.shorthand.Writes.{Writes}
-use Rattle.pmp_text.specs.Marks.{is_in}
 use Rattle.pmp_text.specs.ScriptEvents.{event_in, event_of, head_line_in, head_lines}
-use Rattle.pmp_text.specs.ScriptFaults.{event_fault, head_fault, mark_fault, publish_fault}
 use Rattle.pmp_text.specs.ScriptLines.{Line, said_by}
 use Rattle.pmp_text.specs.Statements.{statement_of}
 use Rattle.pmp_text.specs.Steps.Cuts.{cut_from}
@@ -35,10 +30,11 @@ use Rattle.pmp_text.specs.Steps.Reading.{IsOpen, progress_of}
 use Rattle.pmp_text.specs.Steps.Views.{seen_line}
 use Rattle.pmp_text.specs.declared.script.progress.OpenBatch.{OpenBatch}
 use Rattle.pmp_text.specs.declared.script.significant.NumberedLine.{NumberedLine}
+use Rattle.pmp_text.proofs.Known.{line_taken, with_line}
 use Rattle.pmp_text.proofs.Pieces.{joined-cut_from}
-use Rattle.pmp_text.specs.Steps.Progress.{Progress, Read, Reading, after_line, after_lines, after_statement, events_read}
-use Rattle.pmp_text.specs.Steps.Progress.{file_now, longer_head, nothing_begun, published, read_on, resumed, says_in}
-use Rattle.pmp_text.specs.Steps.Progress.{after_event, unless, with_event, with_expected, with_head, with_mark, with_publish}
+use Rattle.pmp_text.specs.Steps.Progress.{Progress, Read, Reading, after_line, after_lines, after_statement}
+use Rattle.pmp_text.specs.Steps.Progress.{events_read, file_now, nothing_begun, published, read_on, resumed}
+use Rattle.pmp_text.specs.Steps.Progress.{after_event}
 use Rattle.pmp_text.specs.Flaws.{at_line}
 
 -- what comes of a step and these lines behind it
@@ -74,80 +70,43 @@ published_too so_far =
     ∙ flat_map-append (λ batch. batch) so_far.published.batches (so_far.batch ∷ [])
     ∙ ap (λ (events : List Event). joined so_far.published.batches ++ events) (append-nil so_far.batch)
 
-pub taken : (number : ℕ) (fault : Option Flaw) (made next : Reading) → unless number fault made ≡ Ok next
-    → (fault ≡ None) × (made ≡ next)
-taken number None made next e = (refl, cc)
-taken number (Some flaw) made next e = absurd cc
-
 module _ (so_far : Reading) (before : List Line) (follows : Follows so_far before) (line : Line) where
-  head_behind : (says : Result Statement Flaw) → said_by Headed line ≡ says
-      → so_far.head.lines ++ cons_option (head_line_in line.number says) [] ≡ head_lines Headed (before ++ line ∷ [])
-  head_behind says e =
-      ap (λ (head : List HeadLine). head ++ cons_option (head_line_in line.number says) []) follows.head
-      ∙ sym (ap (λ (r : Result Statement Flaw). head_lines Headed before ++ cons_option (head_line_in line.number r) []) e)
-      ∙ sym (filter_map-append (λ (line : Line). head_line_in line.number (said_by Headed line)) before (line ∷ []))
-
-  events_behind : (says : Result Statement Flaw) → said_by Headed line ≡ says
-      → events_read so_far.progress ++ cons_option (event_in says) [] ≡ filter_map (event_of Headed) (before ++ line ∷ [])
-  events_behind says e =
-      ap (λ (events : List Event). events ++ cons_option (event_in says) []) follows.events
-      ∙ sym (ap (λ (r : Result Statement Flaw). filter_map (event_of Headed) before ++ cons_option (event_in r) []) e)
-      ∙ sym (filter_map-append (event_of Headed) before (line ∷ []))
-
-  -- the head and the events stay as they were
-  as_before : (next : Reading) (says : Result Statement Flaw) → said_by Headed line ≡ says
-      → head_line_in line.number says ≡ None → event_in says ≡ None → next.head.lines ≡ so_far.head.lines
-      → events_read next.progress ≡ events_read so_far.progress → Follows next (before ++ line ∷ [])
-  as_before next says e no_head no_event same_head same_events = record {
-    head = same_head ∙ sym (append-nil so_far.head.lines)
-        ∙ sym (ap (λ (x : Option HeadLine). so_far.head.lines ++ cons_option x []) no_head) ∙ head_behind says e;
-    events = same_events ∙ sym (append-nil (events_read so_far.progress))
-        ∙ sym (ap (λ (x : Option Event). events_read so_far.progress ++ cons_option x []) no_event)
-        ∙ events_behind says e;
+  -- the line adds what it says
+  adds : (next : Reading) (says : Result Statement Flaw) → said_by Headed line ≡ says
+      → next.head.lines ≡ so_far.head.lines ++ cons_option (head_line_in line.number says) []
+      → events_read next.progress ≡ events_read so_far.progress ++ cons_option (event_in says) []
+      → Follows next (before ++ line ∷ [])
+  adds next says e heads events = record {
+    head = heads ∙ rw (
+      filter_map-append (λ (line : Line). head_line_in line.number (said_by Headed line)) before
+          (line ∷ []),
+      e,
+      follows.head,
+    ) refl;
+    events = events ∙ rw (filter_map-append (event_of Headed) before (line ∷ []), e, follows.events) refl;
   }
 
-  module _ (next : Reading) where
-    with_its_head : (fault : Option Flaw) (number : ℕ) (says : _) → said_by Headed line ≡ Ok (statement.Head says)
-        → number ≡ line.number
-        → with_head so_far (unless number fault (longer_head so_far.head number says)) ≡ Ok next
-        → Follows next (before ++ line ∷ [])
-    with_its_head (Some flaw) number says e n made = absurd cc
-    with_its_head None number says e n made =
-        let is : record so_far { head = longer_head so_far.head number says } ≡ next = cc in
-        record {
-          head = sym (ap (λ (r : Reading). r.head.lines) is)
-              ∙ ap (λ (n : ℕ). so_far.head.lines ++ record { line = n; statement = says } ∷ []) n ∙ head_behind _ e;
-          events = sym (ap (λ (r : Reading). events_read r.progress) is)
-              ∙ sym (append-nil (events_read so_far.progress)) ∙ events_behind _ e;
-        }
+  same_head : so_far.head.lines ≡ so_far.head.lines ++ []
+  same_head = sym (append-nil so_far.head.lines)
 
-    follows_says : (says : Result Statement Flaw) → said_by Headed line ≡ says
-        → after_statement Headed so_far line.number says ≡ Ok next → Follows next (before ++ line ∷ [])
-    follows_says (Err flaw) e made = absurd cc
-    follows_says (Ok (statement.Publish name)) e made =
-        let (none, is) = taken line.number (publish_fault (is_in so_far.marks) name so_far.done) (with_publish so_far name) next made in
-        as_before next _ e refl refl (sym (ap (λ (r : Reading). r.head.lines) is))
-        (sym (ap (λ (r : Reading). events_read r.progress) is) ∙ published_too so_far.progress)
-    follows_says (Ok (statement.Mark name)) e made =
-        let (none, is) = taken line.number (mark_fault _ (is_in so_far.marks name)) (with_mark so_far name) next made in
-        as_before next _ e refl refl (sym (ap (λ (r : Reading). r.head.lines) is))
-        (sym (ap (λ (r : Reading). events_read r.progress) is))
-    follows_says (Ok (statement.Event event)) e made =
-        let (none, is) = taken line.number
-        (event_fault (event_flaw Headed (profile_said so_far.head.lines).is_rv32 event) _ so_far.events)
-        (with_event so_far line.number event) next made in
-        record {
-          head = sym (ap (λ (r : Reading). r.head.lines) is) ∙ sym (append-nil so_far.head.lines) ∙ head_behind _ e;
-          events = sym (ap (λ (r : Reading). events_read r.progress) is)
-              ∙ sym (append_assoc (joined so_far.progress.published.batches) so_far.progress.batch (event ∷ []))
-              ∙ events_behind _ e;
-        }
-    follows_says (Ok (statement.Head says)) e made =
-        with_its_head (head_fault so_far.head.is_over (says_in so_far.head.lines says) says) line.number says e refl made
-    follows_says (Ok (statement.Expect register value)) e made =
-        let is : with_expected so_far line.number register value ≡ next = cc in
-        as_before next _ e refl refl (sym (ap (λ (r : Reading). r.head.lines) is))
-        (sym (ap (λ (r : Reading). events_read r.progress) is))
+  same_events : events_read so_far.progress ≡ events_read so_far.progress ++ []
+  same_events = sym (append-nil (events_read so_far.progress))
+
+  follows_line : (says : Result Statement Flaw) → said_by Headed line ≡ says
+      → Follows (with_line Headed so_far line.number says) (before ++ line ∷ [])
+  follows_line (Err flaw) e = adds _ _ e same_head same_events
+  follows_line (Ok (statement.Publish name)) e =
+      adds _ _ e same_head (published_too so_far.progress ∙ same_events)
+  follows_line (Ok (statement.Mark name)) e = adds _ _ e same_head same_events
+  follows_line (Ok (statement.Event event)) e = adds _ _ e same_head
+      (sym (append_assoc (joined so_far.progress.published.batches) so_far.progress.batch (event ∷ [])))
+  follows_line (Ok (statement.Head says)) e = adds _ _ e refl same_events
+  follows_line (Ok (statement.Expect register value)) e = adds _ _ e same_head same_events
+
+  follows_says : (next : Reading) → after_line Headed so_far line ≡ Ok next → Follows next (before ++ line ∷ [])
+  follows_says next made = subst (λ (r : Reading). Follows r (before ++ line ∷ []))
+      (line_taken Headed so_far line.number (said_by Headed line) next made).1
+      (follows_line (said_by Headed line) refl)
 
 module _ (these : List Line) (later : (so_far : Reading) (before : List Line) → Follows so_far before → (next : Reading)
     → after_lines Headed so_far these ≡ Ok next → Follows next (before ++ these)) where
@@ -159,7 +118,7 @@ module _ (these : List Line) (later : (so_far : Reading) (before : List Line) �
       ] ≡ Ok next → Follows next (before ++ line ∷ these)
   follows_step line so_far before follows next (Err fault) was e = absurd cc
   follows_step line so_far before follows next (Ok between) was e =
-      let here = follows_says so_far before follows line between (said_by Headed line) refl was in
+      let here = follows_says so_far before follows line between was in
       let behind = later between (before ++ line ∷ []) here next e in
       record {
         head = behind.head ∙ ap (head_lines Headed) (append_assoc before (line ∷ []) these);
@@ -170,12 +129,7 @@ follows_lines : (these : List Line) (so_far : Reading) (before : List Line) → 
     → after_lines Headed so_far these ≡ Ok next → Follows next (before ++ these)
 follows_lines [] so_far before follows next e =
     let is : so_far ≡ next = cc in
-    record {
-      head = sym (ap (λ (r : Reading). r.head.lines) is) ∙ follows.head
-          ∙ sym (ap (head_lines Headed) (append-nil before));
-      events = sym (ap (λ (r : Reading). events_read r.progress) is) ∙ follows.events
-          ∙ sym (ap (filter_map (event_of Headed)) (append-nil before));
-    }
+    rw (← is, append-nil) follows
 follows_lines (line ∷ these) so_far before follows next e =
     follows_step these (follows_lines these) line so_far before follows next (after_line Headed so_far line) refl e
 

@@ -1,6 +1,6 @@
 -- Reading line by line gives what the whole script means.
-use Rattle.std.proofs.Common.{◌≡◌, ℕ, ◌+◌, ◌<◌, ◌≤◌, Bool, true, false, cond, List, [], ◌∷◌, length}
-use Rattle.std.proofs.Common.{Option, Some, None, Result, Err, refl, sym, ap, ◌∙◌}
+use Rattle.std.proofs.Common.{◌≡◌, ℕ, ◌+◌, ◌<◌, ◌≤◌, Bool, true, false, cond, List, [], ◌∷◌, length, Option, Some, None}
+use Rattle.std.proofs.Common.{Result, Err, refl, sym, ap, ◌∙◌}
 use Rattle.std.specs.Prelude.{unwrap_or, codes, bytes_eq, ◌||◌, filter}
 use Rattle.std.specs.List.{cons_option}
 use Rattle.std.proofs.lemmas.Bool.{cond-true, cond-false, lt-ltb, le-ltb}
@@ -11,12 +11,9 @@ use Rattle.pmp_text.specs.declared.flaw.Flaw.{Flaw}
 use Rattle.pmp_text.specs.declared.refusal.Refusal.TheVariants.{BadVersion, BadLine, TooLong}
 use Rattle.pmp_text.specs.declared.script.ScriptFault.{ScriptFault}
 use Rattle.pmp_text.specs.declared.script.statement.Statement.{Statement}
-use Rattle.pmp_text.specs.declared.expectation.Expectation.{Expectation}
-use Rattle.pmp_text.specs.declared.mark.Mark.{Mark}
-use Rattle.pmp_text.specs.declared.script.head.HeadLine.{HeadLine}
 use Rattle.pmp_text.specs.declared.script.version.Version.{Version}
 use Rattle.pmp_text.specs.declared.script.version.Version.TheVariants.{Sized, Headed}
-use Rattle.pmp_text.specs.Contents.{Publications}
+use Rattle.pmp_text.specs.Contents.{Publications, ScriptContents}
 use Rattle.pmp_text.specs.Statements.{has_rv32, statement_of}
 use Rattle.pmp_text.specs.declared.script.reader.TheConstants.{MAX_HEADED_SCRIPT, MAX_SCRIPT}
 use Rattle.pmp_text.specs.Lines.{lines, words}
@@ -24,16 +21,12 @@ use Rattle.pmp_text.specs.Longhand.{in_longhand, lines_in_longhand, meant_behind
 use Rattle.pmp_text.specs.ScriptLines.{Line, counts, is_headed_by, numbered_from, said_by, significant_from}
 use Rattle.pmp_text.specs.ScriptLines.{significant_lines, version_flaw, version_named, version_numbered}
 use Rattle.pmp_text.specs.ScriptFaults.{counted, ends_head, first_fault, names_same, rv32_behind, says_same}
-use Rattle.pmp_text.specs.ScriptEvents.{event_in, expected_from, first_unpublished, head_lines, marks_from}
-use Rattle.pmp_text.specs.ScriptEvents.{publications, publishes}
-use Rattle.pmp_text.specs.Scripts.{fault_or_publications, for_head, for_unit, lines_meaning, meaning_behind}
-use Rattle.pmp_text.specs.Scripts.{most_bytes, script_meaning}
-use Rattle.pmp_text.specs.Steps.Progress.{Read, nothing_begun}
-use Rattle.pmp_text.specs.Steps.Progress.{resumed}
-use Rattle.pmp_text.specs.Steps.Progress.{concluded}
-use Rattle.pmp_text.proofs.NoExpectations.{expects_nothing}
+use Rattle.pmp_text.specs.ScriptEvents.{event_in, first_unpublished, publishes}
+use Rattle.pmp_text.specs.Scripts.{fault_or_publications, for_head, for_unit, lines_meaning, meaning_behind, most_bytes}
+use Rattle.pmp_text.specs.Scripts.{script_meaning}
+use Rattle.pmp_text.specs.Steps.Progress.{Read, concluded, nothing_begun, resumed}
 use Rattle.pmp_text.proofs.Known.{Knows}
-use Rattle.pmp_text.proofs.Resumed.{meant_from-nothing, read_of, reading_means}
+use Rattle.pmp_text.proofs.Resumed.{meant_alone, meant_from-nothing, read_alone, reading_means}
 use Rattle.pmp_text.specs.Flaws.{at_line, part, as_whole}
 
 -- ---- from the version line on
@@ -61,41 +54,27 @@ no_statement (name ∷ number ∷ word ∷ more) version e any = absurd cc
 
 -- ---- what is concluded
 
-module _ (published : Publications) (head : List HeadLine) where
-  abbrev whole : List Expectation → List Mark → Read
-  whole expectations marks =
-      record { published = published; head = head; expectations = expectations; marks = marks }
+abbrev of_version : Version → Read → Result Publications ScriptFault → Result ScriptContents ScriptFault
+of_version (Sized size) read = for_unit size
+of_version Headed read = for_head read.head read.expectations read.marks
 
-  sized_as_concluded : (size : Size) (marks : List Mark) (fault : Option ScriptFault) (unpublished : Option ℕ)
-      → for_unit size (fault_or_publications fault unpublished published)
-      ≡ concluded (Sized size) (fault_or_publications fault unpublished (whole [] marks))
-  sized_as_concluded size marks (Some fault) unpublished = refl
-  sized_as_concluded size marks None (Some number) = refl
-  sized_as_concluded size marks None None = refl
+concludes : (version : Version) (read : Read) (fault : Option ScriptFault) (unpublished : Option ℕ)
+    → of_version version read (fault_or_publications fault unpublished read.published)
+    ≡ concluded version (fault_or_publications fault unpublished read)
+concludes (Sized size) read (Some fault) unpublished = refl
+concludes (Sized size) read None (Some number) = refl
+concludes (Sized size) read None None = refl
+concludes Headed read (Some fault) unpublished = refl
+concludes Headed read None (Some number) = refl
+concludes Headed read None None = refl
 
-  headed_as_concluded : (expectations : List Expectation) (marks : List Mark) (fault : Option ScriptFault)
-      (unpublished : Option ℕ)
-      → for_head head expectations marks (fault_or_publications fault unpublished published)
-      ≡ concluded Headed (fault_or_publications fault unpublished (whole expectations marks))
-  headed_as_concluded expectations marks (Some fault) unpublished = refl
-  headed_as_concluded expectations marks None (Some number) = refl
-  headed_as_concluded expectations marks None None = refl
-
-as_concluded : (version : Version) (first : Line) (more : List Line) → meaning_behind first more (Some version)
-    ≡ concluded version (fault_or_publications (first_fault (first ∷ []) more) (first_unpublished version more)
-    (read_of version (publications version more) (head_lines version more) (expected_from version 0 more)
-    (marks_from version 0 more)))
+as_concluded : (version : Version) (first : Line) (more : List Line)
+    → meaning_behind first more (Some version) ≡ concluded version (meant_alone version (first ∷ []) more)
 as_concluded (Sized size) first more =
-    sized_as_concluded (publications (Sized size) more) (head_lines (Sized size) more) size
-    (marks_from (Sized size) 0 more) (first_fault (first ∷ []) more) (first_unpublished (Sized size) more)
-    ∙ (λ i. concluded (Sized size) (fault_or_publications (first_fault (first ∷ []) more)
+    concludes (Sized size) (read_alone (Sized size) more) (first_fault (first ∷ []) more)
     (first_unpublished (Sized size) more)
-    (whole (publications (Sized size) more) (head_lines (Sized size) more) (sym (expects_nothing size more 0) i)
-    (marks_from (Sized size) 0 more))))
 as_concluded Headed first more =
-    headed_as_concluded (publications Headed more) (head_lines Headed more) (expected_from Headed 0 more)
-    (marks_from Headed 0 more)
-    (first_fault (first ∷ []) more) (first_unpublished Headed more)
+    concludes Headed (read_alone Headed more) (first_fault (first ∷ []) more) (first_unpublished Headed more)
 
 -- ---- the version line
 
@@ -145,10 +124,7 @@ module _ (first : Line) (version : Version) (named : version_named first.words �
       }
 
   pub read_from_nothing : (more : List Line)
-      → fault_or_publications (first_fault (first ∷ []) more) (first_unpublished version more)
-      (read_of version (publications version more) (head_lines version more) (expected_from version 0 more)
-      (marks_from version 0 more))
-      ≡ resumed version nothing_begun more
+      → meant_alone version (first ∷ []) more ≡ resumed version nothing_begun more
   read_from_nothing more =
       sym (meant_from-nothing version (first ∷ []) more)
       ∙ sym (reading_means version more nothing_begun first []
@@ -177,11 +153,7 @@ module _ (text : List ℕ) where
           ∙ ap (meaning_behind first more) e
 
       module _ (version : Version) (named : version_named first.words ≡ Some version) where
-        pub reads_from_nothing : fault_or_publications (first_fault (first ∷ []) (in_longhand version more))
-            (first_unpublished version (in_longhand version more))
-            (read_of version (publications version (in_longhand version more))
-            (head_lines version (in_longhand version more)) (expected_from version 0 (in_longhand version more))
-            (marks_from version 0 (in_longhand version more)))
+        pub reads_from_nothing : meant_alone version (first ∷ []) (in_longhand version more)
             ≡ resumed version nothing_begun (in_longhand version more)
         reads_from_nothing =
             read_from_nothing first version named (first_alone text first more lines) (in_longhand version more)

@@ -1,6 +1,6 @@
 -- What the pieces of a cut list are.
 use Rattle.std.proofs.Common.{◌≡◌, ℕ, zero, suc, ◌+◌, ◌-◌, ◌<◌, ◌≤◌, List, [], ◌∷◌, ◌++◌, length, take, drop, get_or}
-use Rattle.std.proofs.Common.{refl, sym, ap, ◌∙◌, arith}
+use Rattle.std.proofs.Common.{refl, sym, ap, ◌∙◌, add-one, arith}
 use Rattle.std.specs.Prelude.{slice_index_or}
 use Rattle.std.specs.List.{flat_map, slice_range}
 use Rattle.std.proofs.lemmas.List.{append_assoc, append-nil, drop_all, drop-append-le, length-append, length-drop}
@@ -27,6 +27,16 @@ pub steps : (k before : ℕ) (ends : List ℕ) → k < length ends → AreEnds b
 steps k before [] below are = absurd (omega arith)
 steps zero before (end ∷ ends) below are = (are.0, are.1)
 steps (suc k) before (end ∷ ends) below are = steps k end ends (omega arith) are.2
+
+-- where the piece with this index begins and ends
+pub bounds : (k start end : ℕ) (ends : List ℕ) → k < length ends → AreEnds 0 ends → start ≡ last_end 0 (take k ends)
+    → end ≡ last_end 0 (take (k + 1) ends)
+    → (start ≤ end) × (end ≤ start + BATCH_EVENTS) × (end ≤ last_end 0 ends)
+bounds k start end ends inside are from to =
+    let next = rw add-one at to in
+    let step = steps k 0 ends inside are in
+    let last = below_last (suc k) 0 ends are in
+    (omega (arith, from, next, step), omega (arith, from, next, step), omega (arith, next, last))
 
 pub end_at : (k d before : ℕ) (ends : List ℕ) → k < length ends → last_end before (take (suc k) ends) ≡ get_or ends k d
 end_at k d before [] below = absurd (omega arith)

@@ -22,7 +22,8 @@ use Rattle.pmp_text.specs.Reports.{AreDecided, IsReport, file_of_script}
 use Rattle.pmp_text.specs.Longhand.{in_longhand, lines_in_longhand, meant_behind, meant_lines}
 use Rattle.pmp_text.specs.ScriptLines.{Line, counts, numbered_from, said_by, significant_from, significant_lines}
 use Rattle.pmp_text.specs.ScriptLines.{version_flaw, version_named}
-use Rattle.pmp_text.specs.Scripts.{for_unit, lines_meaning, meaning_behind, most_bytes, published_behind, script_meaning}
+use Rattle.pmp_text.specs.Scripts.{for_unit, lines_meaning, meaning_behind, most_bytes, published_behind}
+use Rattle.pmp_text.specs.Scripts.{script_meaning}
 use Rattle.pmp_text.specs.Statements.{statement_of}
 use Rattle.pmp_text.specs.Steps.Progress.{Reading, Read, nothing_begun, after_statement, resumed, concluded}
 use Rattle.pmp_text.specs.declared.flaw.Flaw.{Flaw}
@@ -33,8 +34,8 @@ use Rattle.pmp_core.specs.Decision.{IsDecision}
 use Rattle.pmp_core.specs.Hart.{profile_of, profile_with}
 use Rattle.pmp_core.specs.RegisterFile.{reset_file}
 use Rattle.pmp_text.specs.Versions.{IsVersionOne, is_version_one, lines_meaning_in_one, meaning_in_one, in_sixteen}
-use Rattle.pmp_text.specs.Versions.{IsReportInOne, VersionOneLaw, IsSameInTwo, in_sixty_four, VersionTwoLaw}
-use Rattle.pmp_text.specs.Versions.{HasNoHead, NoHeadLaw}
+use Rattle.pmp_text.specs.Versions.{IsReportInOne, VersionOneLaw, IsSameInTwo, in_sixty_four, VersionTwoLaw, HasNoHead}
+use Rattle.pmp_text.specs.Versions.{NoHeadLaw}
 use Rattle.pmp_core.proofs.HartNumbers.{usual}
 use Rattle.pmp_text.proofs.MadeScripts.{Begins, is_read}
 use Rattle.pmp_text.proofs.Meanings.{most_of, with_size}
@@ -213,7 +214,7 @@ of_size size all = record {
   start = reset_file (profile_of size);
   batches = all.published.batches;
   lines = all.published.lines;
-  expectations = all.expectations;
+  expectations = [];
   marks = None;
 }
 

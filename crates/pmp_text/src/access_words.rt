@@ -3,7 +3,6 @@
 ghost use Rattle.std.specs.Prelude.{◌≡◌};
 ghost use Rattle.pmp_text.specs.AccessWords.{mode_named, kind_named};
 
-use crate::words::is_word;
 use pmp_core::{Kind, Mode};
 
 /// Returns the mode that a word names: `M`, `S` or `U`.
@@ -22,13 +21,10 @@ pub fn read_mode(word: &[u8]) -> Option<Mode>
 pub fn read_kind(word: &[u8]) -> Option<Kind>
     ensures { result ≡ kind_named word.now }
 {
-    if is_word(word, b"fetch") {
-        Some(Kind::Fetch)
-    } else if is_word(word, b"load") {
-        Some(Kind::Load)
-    } else if is_word(word, b"store") {
-        Some(Kind::Store)
-    } else {
-        None
+    match word {
+        b"fetch" => Some(Kind::Fetch),
+        b"load" => Some(Kind::Load),
+        b"store" => Some(Kind::Store),
+        _ => None,
     }
 }

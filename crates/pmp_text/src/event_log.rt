@@ -1,8 +1,7 @@
 //! Logs: the storage of a script's events.
 
 ghost use Rattle.std.specs.Prelude.{◌≡◌, ◌++◌, ◌∷◌, [], OnErr, OnOk, length};
-ghost use Rattle.pmp_text.specs.EventLogs.{Kept, nothing_kept, with_end, with_event, with_expectation};
-ghost use Rattle.pmp_text.specs.EventLogs.{with_mark};
+ghost use Rattle.pmp_text.specs.EventLogs.{Kept, nothing_kept, with_end, with_event, with_expectation, with_mark};
 
 mod log;
 mod store;

@@ -1,9 +1,8 @@
 //! The moments of a script, as words name them.
 
 ghost use Rattle.std.specs.Prelude.{◌≡◌, ◌≤◌};
-ghost use Rattle.pmp_text.specs.Moments.{after_said, asked_between, done_at, label_place, label_said};
-ghost use Rattle.pmp_text.specs.Moments.{moment_named, moment_said, place_of, to_said, waives, when_place};
-ghost use Rattle.pmp_text.specs.Moments.{when_said};
+ghost use Rattle.pmp_text.specs.Moments.{after_said, asked_between, done_at, label_place, label_said, moment_named};
+ghost use Rattle.pmp_text.specs.Moments.{moment_said, place_of, to_said, waives, when_place, when_said};
 
 use crate::mark::{Mark, Name};
 use crate::numbers::read_word_number;

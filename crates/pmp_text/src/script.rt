@@ -1,7 +1,6 @@
 //! Scripts: the publications that a text describes, and why a text describes none.
 
-ghost use Rattle.std.specs.Prelude.{◌≡◌, suc, ◌+◌, ◌<◌, ◌≤◌, [], length, take};
-ghost use Rattle.std.specs.Prelude.{None, Some, if◌then◌else◌, slice_index_or};
+ghost use Rattle.std.specs.Prelude.{◌≡◌, ◌<◌, ◌≤◌, [], length, take, None, Some, if◌then◌else◌, slice_index_or};
 ghost use Rattle.pmp_core.specs.declared.event.TheConstants.{BATCH_EVENTS};
 ghost use Rattle.pmp_core.specs.Histories.{joined};
 ghost use Rattle.pmp_text.specs.Contents.{ScriptContents};
@@ -114,27 +113,27 @@ fn end_of(ends: &[usize], publications: usize) -> usize
     ends[publications - 1]
 }
 
-/// Returns how many events come before the publication with this index, and how many up to its end.
-fn bounds_of(ends: &[usize], index: usize) -> (usize, usize)
+/// Returns the part of a list that the publication with this index has.
+fn part_of<'a, T>(items: &'a [T], ends: &[usize], index: usize) -> &'a [T]
     requires index { index < length ends.now }
     requires ascending { AreEnds 0 ends.now }
-    ensures start { result.0 ≡ last_end 0 (take index ends.now) }
-    ensures end { result.1 ≡ last_end 0 (take (suc index) ends.now) }
-    ensures forward { result.0 ≤ result.1 }
-    ensures few { result.1 ≤ result.0 + BATCH_EVENTS }
-    ensures inside { result.1 ≤ last_end 0 ends.now }
+    requires inside { last_end 0 ends.now ≤ length items.now }
+    ensures part { result.now ≡ slice_index_or (cut_from 0 ends.now items.now) index [] }
+    ensures limit { length result.now ≤ BATCH_EVENTS }
 {
-    (end_of(ends, index), end_of(ends, index + 1))
+    let start = end_of(ends, index);
+    let end = end_of(ends, index + 1);
+    &items[start..end]
 }
 
 impl<'a> Script<'a> {
-    /// Returns the script that a log keeps, all of whose events are published; with names of moments if its version has
-    /// them.
+    /// Returns the script that a log keeps, all of whose events are published; with expectations and names of moments
+    /// if its version has them.
     pub(crate) fn new<L: EventLog>(
         size: Size,
         start: RegFile,
         log: &'a L,
-        has_names: bool,
+        is_headed: bool,
     ) -> Script<'a>
         requires { let kept = L.kept log.now in AreCut kept.ends (length kept.events) (length kept.lines) }
         ensures { let kept = L.kept log.now in result ≡ record {
@@ -142,8 +141,8 @@ impl<'a> Script<'a> {
           start = start;
           batches = cut_from 0 kept.ends kept.events;
           lines = cut_from 0 kept.ends kept.lines;
-          expectations = kept.expectations;
-          marks = if has_names then Some kept.marks else None;
+          expectations = if is_headed then kept.expectations else [];
+          marks = if is_headed then Some kept.marks else None;
         } }
     {
         Script {
@@ -152,8 +151,8 @@ impl<'a> Script<'a> {
             events: log.events(),
             lines: log.lines(),
             ends: log.ends(),
-            expectations: log.expectations(),
-            marks: has_names.then_some(log.marks()),
+            expectations: if is_headed { log.expectations() } else { &[] },
+            marks: is_headed.then_some(log.marks()),
         }
     }
 
@@ -217,8 +216,7 @@ impl<'a> Script<'a> {
         requires { index < length self.now.batches }
         ensures { result.now ≡ slice_index_or self.now.lines index [] }
     {
-        let (start, end) = bounds_of(self.ends, index as usize);
-        &self.lines[start..end]
+        part_of(self.lines, self.ends, index as usize)
     }
 
     /// Returns the events of the publication with this index, from 0.
@@ -227,7 +225,6 @@ impl<'a> Script<'a> {
         ensures events { result.now ≡ slice_index_or self.now.batches index [] }
         ensures limit { length result.now ≤ BATCH_EVENTS }
     {
-        let (start, end) = bounds_of(self.ends, index as usize);
-        &self.events[start..end]
+        part_of(self.events, self.ends, index as usize)
     }
 }

@@ -218,7 +218,7 @@ concluded (Sized size) (Ok read) = Ok (record {
   start = reset_file (profile_of size);
   batches = read.published.batches;
   lines = read.published.lines;
-  expectations = read.expectations;
+  expectations = [];
   marks = None;
 })
 concluded Headed (Ok read) = for_head read.head read.expectations read.marks (Ok read.published)

@@ -1,9 +1,8 @@
 //! The rows that say where two register files differ in what they let the modes do with bytes, or how they lock them.
 
-ghost use Rattle.std.specs.Prelude.{◌≡◌, ◌++◌, IfOk, OnOk, OnErr, is_some, not};
-ghost use Rattle.pmp_text.specs.Changes.{asked_change, asked_row, byte_lock_text, change_by, change_of, change_text};
-ghost use Rattle.pmp_text.specs.Changes.{goes_beyond, has_beyond, has_row, is_asked, is_same_lock, locks_row};
-ghost use Rattle.pmp_text.specs.Changes.{locks_row_unless, rights_row, rights_row_if};
+ghost use Rattle.std.specs.Prelude.{◌≡◌, ◌++◌, IfOk, OnOk, OnErr};
+ghost use Rattle.pmp_text.specs.Changes.{asked_row, byte_lock_text, change_of, change_text, goes_beyond, has_beyond};
+ghost use Rattle.pmp_text.specs.Changes.{has_row, is_asked};
 
 use crate::lines::hexadecimal::{ADDRESS_DIGITS, Hex};
 use crate::lines::marks::ModeMarks;
@@ -91,63 +90,11 @@ fn byte_lock_word(lock: ByteLock) -> &'static str
     }
 }
 
-/// Appends the row of a run of rights, if it has a wanted difference, and returns whether it has.
-#[tactic(auto, unfolding(crate::specs::Changes::rights_row, crate::specs::Steps::Marks::perms_text))]
-fn write_rights<S: Sink>(
-    out: &mut S,
-    run: &ComparedRun,
-    old: ModeRights,
-    new: ModeRights,
-    only: Option<Only>,
-) -> Result<bool, NoMemory>
-    ensures ok { OnOk result
-        (S.text out.new ≡ S.text out.old ++ rights_row_if run.now old new (asked_change only old new)) }
-    ensures has { IfOk result (λ has. has ≡ is_some (asked_change only old new)) }
-    ensures err { OnErr result (S.text out.new ≡ S.text out.old) }
-{
-    match change_of(&old, &new) {
-        Some(change) if is_asked(only, change) => {
-            let first = Hex::<ADDRESS_DIGITS>::new(run.first);
-            let last = Hex::<ADDRESS_DIGITS>::new(run.last);
-            let old = ModeMarks(old);
-            let new = ModeMarks(new);
-            let change = change_word(change);
-            append_line(out, format_args!("{first},{last},{old},{new},{change}\n"))?;
-            Ok(true)
-        }
-        _ => Ok(false),
-    }
-}
-
-/// Appends the row of a run of locks, if they differ, and returns whether it has one.
-#[tactic(auto, unfolding(crate::specs::Changes::locks_row))]
-fn write_locks<S: Sink>(
-    out: &mut S,
-    run: &ComparedRun,
-    old: ByteLock,
-    new: ByteLock,
-) -> Result<bool, NoMemory>
-    ensures ok { OnOk result
-        (S.text out.new ≡ S.text out.old ++ locks_row_unless run.now old new (is_same_lock old new)) }
-    ensures has { IfOk result (λ has. has ≡ not (is_same_lock old new)) }
-    ensures err { OnErr result (S.text out.new ≡ S.text out.old) }
-{
-    if old == new {
-        return Ok(false);
-    }
-    let first = Hex::<ADDRESS_DIGITS>::new(run.first);
-    let last = Hex::<ADDRESS_DIGITS>::new(run.last);
-    let old = byte_lock_word(old);
-    let new = byte_lock_word(new);
-    append_line(out, format_args!("{first},{last},{old},{new}\n"))?;
-    Ok(true)
-}
-
 /// Appends the row of a run if the files differ, and returns whether it has one: the first and the last byte in
 /// fourteen hexadecimal digits, then the rest and LF. For rights with a wanted difference the row is
 /// `FIRST,LAST,MOLD,SUOLD,MNEW,SUNEW,CHANGE`: what the old file lets M-mode do there, and S-mode and U-mode, the same
 /// for the new file, and how they differ; for locks it is `FIRST,LAST,LOCKOLD,LOCKNEW`.
-#[tactic(auto, unfolding(crate::specs::Changes::asked_row, crate::specs::Changes::has_row))]
+#[tactic(auto, unfolding(crate::specs::Changes::asked_row, crate::specs::Changes::has_row, crate::specs::Changes::locks_row, crate::specs::Changes::rights_row, crate::specs::Steps::Marks::perms_text,))]
 pub fn write_change<S: Sink>(
     out: &mut S,
     run: &ComparedRun,
@@ -157,8 +104,23 @@ pub fn write_change<S: Sink>(
     ensures has { IfOk result (λ has. has ≡ has_row only run.now) }
     ensures err { OnErr result (S.text out.new ≡ S.text out.old) }
 {
+    let first = Hex::<ADDRESS_DIGITS>::new(run.first);
+    let last = Hex::<ADDRESS_DIGITS>::new(run.last);
     match run.both {
-        Compared::Rights(old, new) => write_rights(out, run, old, new, only),
-        Compared::Locks(old, new) => write_locks(out, run, old, new),
+        Compared::Rights(old, new) => match change_of(&old, &new) {
+            Some(change) if is_asked(only, change) => {
+                let (old, new) = (ModeMarks(old), ModeMarks(new));
+                let change = change_word(change);
+                append_line(out, format_args!("{first},{last},{old},{new},{change}\n"))?;
+                Ok(true)
+            }
+            _ => Ok(false),
+        },
+        Compared::Locks(old, new) if old == new => Ok(false),
+        Compared::Locks(old, new) => {
+            let (old, new) = (byte_lock_word(old), byte_lock_word(new));
+            append_line(out, format_args!("{first},{last},{old},{new}\n"))?;
+            Ok(true)
+        }
     }
 }

@@ -1,12 +1,8 @@
 //! The rows that say what each event of a script does to a register.
 
 ghost use Rattle.std.specs.Prelude.{◌≡◌, ◌++◌, [], if◌then◌else◌, codes, IfOk, OnOk, OnErr, Some};
-ghost use Rattle.pmp_core.specs.declared.event.Event.TheVariants as event;
-ghost use Rattle.pmp_core.specs.RegisterValue.{register_value};
-ghost use Rattle.pmp_core.specs.RegisterWrite.{step, written};
-ghost use Rattle.pmp_text.specs.Effects.{effect_text, reason_text, reasons_text, entries_text};
-ghost use Rattle.pmp_text.specs.Effects.{event_fields, place_text, effect_row};
-ghost use Rattle.pmp_text.specs.Reports.{fields_after};
+ghost use Rattle.pmp_core.specs.RegisterWrite.{step};
+ghost use Rattle.pmp_text.specs.Effects.{effect_row, effect_text, entries_text, place_text, reason_text, reasons_text};
 
 use crate::lines::hexadecimal::Value;
 use crate::lines::{NoMemory, append_line};
@@ -121,34 +117,6 @@ impl<'a> fmt::Display for Entries<'a> {
     }
 }
 
-/// A write, and what the register reads after it.
-#[derive(Clone, Copy)]
-struct Effect<'a> {
-    write: Write<'a>,
-    after: u64,
-    ghost written: { after ≡ register_value (written write.registers.now write.csr write.value) write.csr },
-}
-
-impl<'a> fmt::Display for Effect<'a> {
-    ghost output = { λ it. Some (fields_after (event_fields it.write.registers.now
-        (event.Write it.write.csr it.write.value))) };
-
-    fn fmt<W: fmt::Write>(&self, f: &mut fmt::Formatter<W>) -> fmt::Result {
-        let before = self.write.registers.read(self.write.csr);
-        let name = RegisterName(self.write.csr);
-        let effect = effect_word(self.write.value, before, self.after);
-        let reasons = Reasons(self.write);
-        let entries = Entries(self.write);
-        let value = Value(self.write.value);
-        let before = Value(before);
-        let after = Value(self.after);
-        write!(
-            f,
-            ",{name},{value},{before},{after},{effect},{reasons},{entries}\n"
-        )
-    }
-}
-
 /// Appends the row of an event that meets this register file: `N,PUBLICATION,LINE,REGISTER,WRITTEN,BEFORE,AFTER,`
 /// `EFFECT,REASONS,ENTRIES` and LF. EFFECT is `stored` if the register then reads what was written, `ignored` if it
 /// reads what it read before, and otherwise `altered`. A reset has `reset` for REGISTER and EFFECT, and the other
@@ -174,8 +142,14 @@ pub fn write_effect<S: Sink>(
                 csr,
                 value,
             };
-            let after = next.read(csr);
-            let effect = Effect { write, after };
+            let (before, after) = (registers.read(csr), next.read(csr));
+            let word = effect_word(value, before, after);
+            let name = RegisterName(csr);
+            let (value, before, after) = (Value(value), Value(before), Value(after));
+            let (reasons, entries) = (Reasons(write), Entries(write));
+            let effect = format_args!(
+                ",{name},{value},{before},{after},{word},{reasons},{entries}\n"
+            );
             append_line(out, format_args!("{place}{effect}"))?;
         }
         Event::Reset => append_line(out, format_args!("{place},reset,,,,reset,,\n"))?,

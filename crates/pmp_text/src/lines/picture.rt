@@ -11,10 +11,12 @@ ghost use Rattle.pmp_core.specs.declared.access.TheConstants.{ADDRESS_LIMIT};
 mod band;
 mod head;
 
+use crate::lines::hexadecimal::{ADDRESS_DIGITS, Hex};
+use crate::lines::marks::Marks;
 use crate::lines::{NoMemory, append_line, append_text};
 use crate::sink::Sink;
-use band::{Ends, Extent, OwnerName, Permissions, Size, Strip, lock_sign};
-use head::{LEGEND, Opening, STYLE, Settings, Title};
+use band::{OwnerName, Size, lock_sign};
+use head::{LEGEND, STYLE, switch_word, switches};
 use pmp_core::RegFile;
 use pmp_map::{ModeRights, Run, RunMap};
 use std::alloc::AllocError;
@@ -39,9 +41,19 @@ fn write_head<S: Sink>(
     ensures ok { OnOk result (S.text out.new ≡ S.text out.old ++ head file.now publications bands) }
     ensures err { OnErr result (S.text out.new ≡ S.text out.old) }
 {
-    let opening = Opening { bands };
-    let title = Title(publications);
-    let settings = Settings::of(file);
+    let height = BAND * bands + 176;
+    let opening = format_args!(
+        "<svg xmlns='http://www.w3.org/2000/svg' width='960' height='{height}' viewBox='0 0 960 {height}'>\n"
+    );
+    let title = format_args!("PMP memory map, publications done: {publications}");
+    let (mml, mmwp, rlb) = switches(file);
+    let mml = switch_word(mml);
+    let mmwp = switch_word(mmwp);
+    let rlb = switch_word(rlb);
+    let settings = format_args!(
+        "<text x='16' y='62'>Lockdown (MML) {mml}, allow-list policy (MMWP) {mmwp}, \
+        rule-locking bypass (RLB) {rlb}</text>\n"
+    );
     append_text::<HEAD, _, _>(
         out,
         format_args!(
@@ -65,13 +77,19 @@ fn write_band<S: Sink>(
     ensures err { OnErr result (S.text out.new ≡ S.text out.old) }
 {
     let rights = ModeRights::of_owner(&file.registers(), run.owner);
-    let strip = Strip {
-        place,
-        rights: rights.others,
-    };
-    let ends = Ends(run.first, run.last);
-    let extent = Extent(Size::of(run), OwnerName(run.owner));
-    let permissions = Permissions(rights);
+    let machine = Marks(rights.machine);
+    let others = Marks(rights.others);
+    let top = BAND * place;
+    let first = Hex::<ADDRESS_DIGITS>::new(run.first);
+    let last = Hex::<ADDRESS_DIGITS>::new(run.last);
+    let size = Size::of(run);
+    let owner = OwnerName(run.owner);
+    let strip = format_args!(
+        "<g class='su{others}' transform='translate(0,{top})'><rect y='-17' width='928' height='{BAND}'/>"
+    );
+    let ends = format_args!("<text x='8'>0x{first}</text><text x='148'>0x{last}</text>");
+    let extent = format_args!("<text x='292'>{size}</text><text x='496'>{owner}</text>");
+    let permissions = format_args!("<text x='592'>{machine}</text><text x='700'>{others}</text>");
     let sign = lock_sign(file, run.owner);
     append_line(
         out,

@@ -1,7 +1,6 @@
 //! What has been read of a script so far.
 
-ghost use Rattle.std.specs.Prelude.{◌≡◌, ◌++◌, Err, IfErr, IfOk, None, Ok, OnOk, Some, length, nat_lt};
-ghost use Rattle.std.specs.Prelude.{if◌then◌else◌};
+ghost use Rattle.std.specs.Prelude.{◌≡◌, ◌++◌, Err, IfErr, IfOk, None, Ok, OnOk, Some, length, nat_lt, if◌then◌else◌};
 ghost use Rattle.pmp_text.specs.EventLogs.{nothing_kept};
 ghost use Rattle.pmp_text.specs.Flaws.{and_then, as_whole};
 ghost use Rattle.pmp_text.specs.Lines.{words};

@@ -2,10 +2,10 @@
 
 ghost use Rattle.std.specs.Prelude.{◌≡◌, ◌<◌, ◌≤◌, IfOk, None};
 ghost use Rattle.pmp_text.specs.Lines.{words};
-ghost use Rattle.pmp_text.specs.Shorthands.{aligned_place, bits_line, byte_write, can_stand, entry_line, entry_said};
-ghost use Rattle.pmp_text.specs.Shorthands.{entry_writes, lock_said, low_end, matching_bits, matching_said, number_said};
-ghost use Rattle.pmp_text.specs.Shorthands.{off_said, place_said, place_words, range_said, rights_said, rule_said, shorthand_of, tor_place};
-ghost use Rattle.pmp_text.specs.Shorthands.{writes_of};
+ghost use Rattle.pmp_text.specs.Shorthands.{aligned_place, byte_write, can_stand, entry_line, entry_said, entry_writes};
+ghost use Rattle.pmp_text.specs.Shorthands.{lock_said, low_end, matching_bits, matching_said, number_said, off_said};
+ghost use Rattle.pmp_text.specs.Shorthands.{place_said, place_words, range_said, rights_said, rule_said, shorthand_of};
+ghost use Rattle.pmp_text.specs.Shorthands.{tor_place, writes_of};
 
 use crate::flaw::Flaw;
 use crate::lines::registers::cfg_at;

@@ -3,8 +3,6 @@
 ghost use Rattle.std.specs.Prelude.{◌≡◌, ◌+◌, ◌≤◌, IfErr, IfOk, None, Some, find, fold, option_map, unwrap_or};
 ghost use Rattle.pmp_text.specs.Heads.{bits_fault, first_not_held, hart_said, is_kept, kept_value, says_bits, started};
 ghost use Rattle.pmp_text.specs.Heads.{fault_on, start_on, with_bits, with_bytes, with_register, with_set};
-ghost use Rattle.pmp_text.specs.Flaws.{at_line, part};
-ghost use Rattle.pmp_text.specs.declared.refusal.Refusal.TheVariants.{NotHeld};
 ghost use Rattle.pmp_text.specs.Longhand.{file_said};
 ghost use Rattle.pmp_text.specs.Steps.Reading.{IsHead};
 
@@ -159,14 +157,6 @@ pub(super) fn file_said(head: &Head) -> RegFile
     }
 }
 
-/// Returns the fault of a value that its register doesn't keep.
-fn not_held(file: &RegFile, lines: &[HeadLine]) -> Option<ScriptFault>
-    ensures { result ≡ option_map (λ number. at_line number (part 2 NotHeld)) (first_not_held file.now lines.now) }
-{
-    let line = first_not_held(file, lines)?;
-    Some(Refusal::NotHeld.part(2).at_line(line))
-}
-
 /// Returns the fault that the whole head has on this file.
 #[tactic(auto, unfolding(crate::specs::Heads::fault_on))]
 fn fault_on(file: &RegFile, lines: &[HeadLine], expected: &[Expectation]) -> Option<ScriptFault>
@@ -175,7 +165,7 @@ fn fault_on(file: &RegFile, lines: &[HeadLine], expected: &[Expectation]) -> Opt
     let is_rv32 = file.hart().profile().is_rv32;
     first_foreign_line(is_rv32, lines)
         .or(first_foreign_expectation(is_rv32, expected))
-        .or(not_held(file, lines))
+        .or(first_not_held(file, lines).map(|line| Refusal::NotHeld.part(2).at_line(line)))
 }
 
 /// Returns the register file that a head describes, if its hart has what the head and the expectations name, and its

@@ -1,7 +1,7 @@
 //! What a line of a script says.
 
 ghost use Rattle.std.specs.Prelude.{◌≡◌, Err, IfErr, IfOk, Ok};
-ghost use Rattle.pmp_text.specs.Heads.{is_same, same_register};
+ghost use Rattle.pmp_text.specs.Heads.{is_same};
 ghost use Rattle.pmp_text.specs.Lines.{words};
 ghost use Rattle.pmp_text.specs.Statements.{assignment, statement_of, head_statement, two_of};
 ghost use Rattle.pmp_text.specs.Statements.{name_of, publish_statement, without_operands};

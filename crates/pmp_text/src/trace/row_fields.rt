@@ -1,12 +1,11 @@
 //! The contents of one record of a trace.
 
-ghost use Rattle.std.specs.Prelude.{◌≡◌, ◌∷◌, [], IfOk, IfErr, None, Ok, Some, option_map};
-ghost use Rattle.csv.specs.Records.{fields_of};
-ghost use Rattle.pmp_text.specs.Traces.{fields_fault, five_fields, is_header, row_fault, row_fields, row_in};
-ghost use Rattle.pmp_text.specs.Traces.{row_of_fields};
-ghost use Rattle.pmp_text.specs.Tables.{is_broken, is_line_end};
+ghost use Rattle.std.specs.Prelude.{◌≡◌, ◌∷◌, [], IfOk, IfErr, None, Some, option_map};
 ghost use Rattle.std.specs.List.{list_any};
+ghost use Rattle.csv.specs.Records.{fields_of};
 ghost use Rattle.pmp_text.specs.Steps.Views.{seen_five};
+ghost use Rattle.pmp_text.specs.Tables.{is_broken, is_line_end};
+ghost use Rattle.pmp_text.specs.Traces.{fields_fault, five_fields, is_header, row_fields, row_in, row_of_fields};
 
 use crate::access_words::{read_kind, read_mode};
 use crate::flaw::Flaw;
@@ -97,14 +96,11 @@ impl RowFields {
     pub fn read(fields: &ByteRecord, moments: &Moments<'_>) -> Result<RowFields, Flaw>
         ensures { result ≡ row_in moments.now (fields_of fields.now) }
     {
-        let Some(words) = five_fields(fields) else {
+        let words = five_fields(fields).ok_or(Refusal::BadRow.whole())?;
+        if words.have_line_end() {
             return Err(Refusal::BadRow.whole());
-        };
-        match RowFields::of_words(words, moments) {
-            Ok(row) => Ok(row),
-            Err(_) if words.have_line_end() => Err(Refusal::BadRow.whole()),
-            Err(flaw) => Err(flaw),
         }
+        RowFields::of_words(words, moments)
     }
 
     /// Returns what the five fields of a record say, or which one is invalid.

@@ -1,15 +1,13 @@
 //! The rows of a piece of a trace, one after another, read at the position of the piece.
 
-ghost use Rattle.std.specs.Prelude.{◌≡◌, ◌+◌, ◌^◌, ◌<◌, ◌≤◌, ◌⊎◌, ◌∷◌, [], IfErr, IfOk, IfSome, List, ℕ, None, Ok};
-ghost use Rattle.std.specs.Prelude.{Some, if◌then◌else◌};
-ghost use Rattle.std.specs.Option.{option_or};
+ghost use Rattle.std.specs.Prelude.{◌≡◌, ◌+◌, ◌^◌, ◌<◌, ◌≤◌, ◌⊎◌, [], IfErr, IfOk, IfSome, None, Ok, Some};
 ghost use Rattle.pmp_text.specs.LongTraces.{IsHeaded, beginning, has_begun, piece_fault, row_records};
 ghost use Rattle.pmp_text.specs.LongTraces.{too_long_for_rows};
 ghost use Rattle.pmp_text.specs.Outcomes.{no_input_for_rows, no_memory_for_rows};
 ghost use Rattle.pmp_text.specs.RowsLeft.{IsNextRow, IsOutOfNumbers, place_after};
 ghost use Rattle.pmp_text.specs.Steps.Records.{IsNext};
 ghost use Rattle.pmp_text.specs.Tables.{records_of};
-ghost use Rattle.pmp_text.specs.Traces.{first_row_fault, row_fault, row_fields, row_in};
+ghost use Rattle.pmp_text.specs.Traces.{first_row_fault};
 
 use crate::flaw::Flaw;
 use crate::moments::Moments;

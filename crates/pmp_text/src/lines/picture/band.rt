@@ -2,16 +2,10 @@
 
 ghost use Rattle.std.specs.Prelude.{◌≡◌, ◌<◌, ◌≤◌, ◌++◌, IfSome, Some, decimal, length};
 ghost use Rattle.pmp_core.specs.declared.access.TheConstants.{ADDRESS_LIMIT};
-ghost use Rattle.pmp_map.specs.declared.run.TheConstants.{RUNS};
-ghost use Rattle.pmp_text.specs.Picture.{ends, extent, lock_sign, owner_name, permissions, size_name, size_of, size_text};
-ghost use Rattle.pmp_text.specs.Picture.{strip};
-ghost use Rattle.pmp_text.specs.Steps.Marks.{perms_text};
+ghost use Rattle.pmp_text.specs.Picture.{lock_sign, owner_name, size_name, size_of, size_text};
 
-use crate::lines::hexadecimal::{ADDRESS_DIGITS, Hex};
-use crate::lines::marks::Marks;
-use crate::lines::picture::BAND;
-use pmp_core::{ADDRESS_LIMIT, Lock, Perms, RegFile};
-use pmp_map::{ModeRights, Run};
+use pmp_core::{ADDRESS_LIMIT, Lock, RegFile};
+use pmp_map::Run;
 use std::fmt;
 
 /// The sign of an owner that is held, a full lock, and the word.
@@ -103,73 +97,5 @@ pub fn lock_sign(file: &RegFile, owner: Option<u8>) -> &'static str
         Lock::Frozen => FROZEN,
         Lock::Bypassed => BYPASSED,
         Lock::Open => "",
-    }
-}
-
-/// The strip of the band in this place, in the colour of these rights.
-#[derive(Clone, Copy)]
-pub struct Strip {
-    pub place: usize,
-    pub rights: Perms,
-    ghost few: { place < RUNS },
-}
-
-impl fmt::Display for Strip {
-    ghost output = { λ band. Some (strip band.place (perms_text band.rights)) };
-
-    fn fmt<W: fmt::Write>(&self, f: &mut fmt::Formatter<W>) -> fmt::Result {
-        let top = BAND * self.place;
-        let rights = Marks(self.rights);
-        write!(
-            f,
-            "<g class='su{rights}' transform='translate(0,{top})'><rect y='-17' width='928' height='{BAND}'/>"
-        )
-    }
-}
-
-/// The first and the last byte of a run.
-#[derive(Clone, Copy)]
-pub struct Ends(pub u64, pub u64);
-
-impl fmt::Display for Ends {
-    ghost output = { λ bytes. Some (ends bytes.0 bytes.1) };
-
-    fn fmt<W: fmt::Write>(&self, f: &mut fmt::Formatter<W>) -> fmt::Result {
-        let first = Hex::<ADDRESS_DIGITS>::new(self.0);
-        let last = Hex::<ADDRESS_DIGITS>::new(self.1);
-        write!(
-            f,
-            "<text x='8'>0x{first}</text><text x='148'>0x{last}</text>"
-        )
-    }
-}
-
-/// The size of a run, and its owner.
-#[derive(Clone, Copy)]
-pub struct Extent(pub Size, pub OwnerName);
-
-impl fmt::Display for Extent {
-    ghost output = { λ run. Some (extent run.0.0 run.1.0) };
-
-    fn fmt<W: fmt::Write>(&self, f: &mut fmt::Formatter<W>) -> fmt::Result {
-        let Extent(size, owner) = *self;
-        write!(f, "<text x='292'>{size}</text><text x='496'>{owner}</text>")
-    }
-}
-
-/// The rights of machine mode and of the other two.
-#[derive(Clone, Copy)]
-pub struct Permissions(pub ModeRights);
-
-impl fmt::Display for Permissions {
-    ghost output = { λ rights. Some (permissions (perms_text rights.0.machine) (perms_text rights.0.others)) };
-
-    fn fmt<W: fmt::Write>(&self, f: &mut fmt::Formatter<W>) -> fmt::Result {
-        let machine = Marks(self.0.machine);
-        let others = Marks(self.0.others);
-        write!(
-            f,
-            "<text x='592'>{machine}</text><text x='700'>{others}</text>"
-        )
     }
 }

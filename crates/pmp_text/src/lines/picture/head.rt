@@ -1,12 +1,9 @@
 //! What stands above the bands of a picture.
 
-ghost use Rattle.std.specs.Prelude.{◌≡◌, ◌≤◌, Some};
-ghost use Rattle.pmp_map.specs.declared.run.TheConstants.{RUNS};
-ghost use Rattle.pmp_text.specs.Picture.{opening, settings, switch_text, title};
+ghost use Rattle.std.specs.Prelude.{◌≡◌};
+ghost use Rattle.pmp_text.specs.Picture.{switch_text};
 
-use crate::lines::picture::BAND;
 use pmp_core::{Csr, RegFile};
-use std::fmt;
 
 /// What the picture shows, in words for screen readers; the colour for each set of rights of supervisor and user mode;
 /// the background.
@@ -51,76 +48,16 @@ not to scale.</text>
 ";
 
 /// Whether a bit of `mseccfg` is set.
-fn switch_word(is_on: bool) -> &'static str
+pub fn switch_word(is_on: bool) -> &'static str
     ensures { result.now ≡ switch_text is_on }
 {
     if is_on { "on" } else { "off" }
 }
 
-/// The first tag of a picture of so many bands.
-#[derive(Clone, Copy)]
-pub struct Opening {
-    pub bands: usize,
-    ghost few: { bands ≤ RUNS },
-}
-
-impl fmt::Display for Opening {
-    ghost output = { λ tag. Some (opening tag.bands) };
-
-    fn fmt<W: fmt::Write>(&self, f: &mut fmt::Formatter<W>) -> fmt::Result {
-        let height = BAND * self.bands + 176;
-        write!(
-            f,
-            "<svg xmlns='http://www.w3.org/2000/svg' width='960' height='{height}' viewBox='0 0 960 {height}'>\n"
-        )
-    }
-}
-
-/// The title of a picture after so many publications.
-#[derive(Clone, Copy)]
-pub struct Title(pub u64);
-
-impl fmt::Display for Title {
-    ghost output = { λ publications. Some (title publications.0) };
-
-    fn fmt<W: fmt::Write>(&self, f: &mut fmt::Formatter<W>) -> fmt::Result {
-        let publications = self.0;
-        write!(f, "PMP memory map, publications done: {publications}")
-    }
-}
-
-/// Which of the bits MML, MMWP and RLB of `mseccfg` are set, as a line.
-#[derive(Clone, Copy)]
-pub struct Settings {
-    mml: bool,
-    mmwp: bool,
-    rlb: bool,
-}
-
-impl Settings {
-    pub fn of(file: &RegFile) -> Settings
-        ensures { record { mml = result.mml; mmwp = result.mmwp; rlb = result.rlb } ≡ file.now.mseccfg }
-    {
-        let bits = file.read(Csr::Mseccfg);
-        Settings {
-            mml: bits % 2 == 1,
-            mmwp: bits / 2 % 2 == 1,
-            rlb: bits / 4 % 2 == 1,
-        }
-    }
-}
-
-impl fmt::Display for Settings {
-    ghost output = { λ bits. Some (settings (record { mml = bits.mml; mmwp = bits.mmwp; rlb = bits.rlb })) };
-
-    fn fmt<W: fmt::Write>(&self, f: &mut fmt::Formatter<W>) -> fmt::Result {
-        let mml = switch_word(self.mml);
-        let mmwp = switch_word(self.mmwp);
-        let rlb = switch_word(self.rlb);
-        write!(
-            f,
-            "<text x='16' y='62'>Lockdown (MML) {mml}, allow-list policy (MMWP) {mmwp}, \
-            rule-locking bypass (RLB) {rlb}</text>\n"
-        )
-    }
+/// Returns which of the bits MML, MMWP and RLB of `mseccfg` are set.
+pub fn switches(file: &RegFile) -> (bool, bool, bool)
+    ensures { record { mml = result.0; mmwp = result.1; rlb = result.2 } ≡ file.now.mseccfg }
+{
+    let bits = file.read(Csr::Mseccfg);
+    (bits % 2 == 1, bits / 2 % 2 == 1, bits / 4 % 2 == 1)
 }

@@ -5,7 +5,9 @@ use Rattle.pmp_text.proofs.lines.picture.write_band.Goals as goal
 pub returns-clause-ok : goal.returns-clause-ok
 unfolding band
 returns-clause-ok g c = rw (
-  c.of.ensures,
+  c.new-first.ensures,
+  c.new-last.ensures,
+  c.of-size.ensures,
   c.lock_sign-sign.ensures,
   c.of_owner-rights.ensures,
   c.registers.ensures.same,

@@ -12,5 +12,8 @@ returns-clause-ok g c =
     rw (
       between (codes "<title>") (title publications) _ (style ++ (large_title publications ++ last)),
       between (codes "<text class='large' x='16' y='36'>") (title publications) _ last,
-      ← c.of-settings.ensures,
+      ← c.switches-mml.ensures,
+      ← c.switch_word-mml.ensures,
+      ← c.switch_word-mmwp.ensures,
+      ← c.switch_word-rlb.ensures,
     ) c.append_text.ensures.ok
