@@ -1,6 +1,6 @@
 -- The text of one member more.
 use Rattle.std.proofs.Common.{◌≡◌, refl, ℕ, zero, suc, ◌+◌, add-one, arith, List, [], ◌∷◌}
-use Rattle.std.proofs.Common.{◌++◌, append_assoc, drop, true}
+use Rattle.std.proofs.Common.{◌++◌, append_assoc, drop}
 use Rattle.std.specs.Prelude.{nat_lt}
 use Rattle.std.proofs.lemmas.Bool.{lt-ltb}
 use Rattle.serde_json.specs.Data.{no_members, string}
@@ -8,9 +8,6 @@ use Rattle.serde_json.specs.Written.{comma_if, compact_text}
 use Rattle.pmp_forms.specs.Columns.{ColumnSaid}
 use Rattle.pmp_forms.specs.Json.{datum, members}
 use Rattle.pmp_forms.specs.Members.{members_from}
-
-not_first : (index : ℕ) → nat_lt 0 (index + 1) ≡ true
-not_first index = lt-ltb 0 (index + 1) (omega arith)
 
 -- a member was written
 pub next_member : (before now : List ℕ) (index : ℕ) (column : ColumnSaid) (field : List ℕ) (fields : List (List ℕ))
@@ -20,7 +17,7 @@ pub next_member : (before now : List ℕ) (index : ℕ) (column : ColumnSaid) (f
     → (columns : List ColumnSaid) → now ++ members_from (index + 1) columns fields
     ≡ before ++ members_from index (column ∷ columns) fields
 next_member before now index column field fields here is columns =
-    rw (is, here, not_first index) (simp append_assoc)
+    rw (is, here, lt-ltb 0 (index + 1) (omega arith)) (simp append_assoc)
 
 no_fields : (columns : List ColumnSaid) → members columns [] ≡ no_members
 no_fields [] = refl

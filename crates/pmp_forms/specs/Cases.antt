@@ -73,11 +73,9 @@ outcome_of verdict =
     if bytes_eq verdict (codes "broken") then Failed
     else (if bytes_eq verdict (codes "unmet") then Skipped else Passed)
 
-abbrev pub name_of : (row : List (List ℕ)) → List ℕ
-name_of row = if nat_lt 7 (length row) then at row 6 else []
-
-abbrev pub comment_of : (row : List (List ℕ)) → List ℕ
-comment_of row = if nat_lt 7 (length row) then at row 7 else []
+-- the name or the comment, which has this place, or nothing
+abbrev pub label_at : (row : List (List ℕ)) → (place : ℕ) → List ℕ
+label_at row place = if nat_lt 7 (length row) then at row place else []
 
 abbrev pub owner_text : (owner : List ℕ) → List ℕ
 owner_text owner = if bytes_eq owner (codes "-") then codes "no entry" else codes "entry " ++ owner
@@ -89,7 +87,7 @@ moment_text has_events done =
 abbrev pub breach_text : (has_events : Bool) → (row : List (List ℕ)) → List ℕ
 breach_text has_events row = joined (moment_text has_events (at row 2) ∷ codes ": bytes 0x" ∷ at row 3
     ∷ codes " to 0x" ∷ at row 4 ∷ codes " of " ∷ owner_text (at row 5) ∷ codes "."
-    ∷ between (codes " ") (comment_of row) [] ∷ [])
+    ∷ between (codes " ") (label_at row 7) [] ∷ [])
 
 abbrev pub verdict_case : (path : List ℕ) → (has_events : Bool) → (row : List (List ℕ)) → CaseSaid
 verdict_case path has_events row = record {
@@ -97,7 +95,7 @@ verdict_case path has_events row = record {
   rule = codes "policy";
   path = path;
   line = None;
-  title = at row 0 ++ between (codes " ") (name_of row) [];
+  title = at row 0 ++ between (codes " ") (label_at row 6) [];
   message = breach_text has_events row;
 }
 

@@ -2,10 +2,9 @@
 
 ghost use Rattle.std.specs.Prelude.{◌≡◌, ◌++◌, ◌<◌, IfOk, OnOk, length, map, nat_lt};
 ghost use Rattle.csv.specs.Records.{fields_of};
-ghost use Rattle.pmp_forms.specs.Cases.{at, between, breach_text, case_of, case_said, cases_of, comment_of};
-ghost use Rattle.pmp_forms.specs.Cases.{finding_case, finding_text, line_of, moment_text, name_of, outcome_of};
-ghost use Rattle.pmp_forms.specs.Cases.{owner_text, path_of};
-ghost use Rattle.pmp_forms.specs.Cases.{range_text, remedy_of, suite_said, verdict_case};
+ghost use Rattle.pmp_forms.specs.Cases.{at, between, breach_text, case_of, case_said, cases_of, label_at};
+ghost use Rattle.pmp_forms.specs.Cases.{finding_case, finding_text, line_of, moment_text, outcome_of};
+ghost use Rattle.pmp_forms.specs.Cases.{owner_text, path_of, range_text, remedy_of, suite_said, verdict_case};
 ghost use Rattle.pmp_forms.specs.Fields.{row_said};
 
 use crate::texts::{append_all, bytes};
@@ -97,16 +96,16 @@ impl<'a> Row<'a> {
         before < self.fields.len()
     }
 
-    fn name(self) -> &'a [u8]
-        ensures { result.now ≡ name_of (row_said self.entry) }
+    /// Returns the name or the comment, which has this place, or nothing.
+    fn label(self, place: usize) -> &'a [u8]
+        requires { place < 16 }
+        ensures { result.now ≡ label_at (row_said self.entry) place }
     {
-        if self.has_label() { self.at(6) } else { b"" }
-    }
-
-    fn comment(self) -> &'a [u8]
-        ensures { result.now ≡ comment_of (row_said self.entry) }
-    {
-        if self.has_label() { self.at(7) } else { b"" }
+        if self.has_label() {
+            self.at(place)
+        } else {
+            b""
+        }
     }
 }
 
@@ -175,7 +174,7 @@ fn append_breach(out: &mut Vec<u8>, has_events: bool, row: Row<'_>) -> Result<()
     )?;
     append_owner(out, row.at(5))?;
     out.push(b'.')?;
-    append_between(out, b" ", row.comment(), b"")
+    append_between(out, b" ", row.label(7), b"")
 }
 
 fn remedy_of(name: &[u8]) -> &'static [u8]
@@ -225,7 +224,7 @@ fn verdict_case(
 {
     let mut title = Vec::new(alloc);
     title.extend_from_slice(row.at(0))?;
-    append_between(&mut title, b" ", row.name(), b"")?;
+    append_between(&mut title, b" ", row.label(6), b"")?;
     let mut message = Vec::new(alloc);
     append_breach(&mut message, has_events, row)?;
     Ok(Case {

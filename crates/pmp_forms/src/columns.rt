@@ -31,13 +31,13 @@ impl Report {
         ensures { said result.now ≡ usual_columns self }
     {
         match self {
-            Report::Runs => kinds::run_columns(),
-            Report::Entries => kinds::entry_columns(),
-            Report::Effects => kinds::effect_columns(),
-            Report::Verdicts => kinds::verdict_columns(),
-            Report::Findings => kinds::finding_columns(),
-            Report::Changes => kinds::change_columns(),
-            Report::Reasons => kinds::reason_columns(),
+            Report::Runs => kinds::RUNS,
+            Report::Entries => kinds::ENTRIES,
+            Report::Effects => kinds::EFFECTS,
+            Report::Verdicts => kinds::VERDICTS,
+            Report::Findings => kinds::FINDINGS,
+            Report::Changes => kinds::CHANGES,
+            Report::Reasons => kinds::REASONS,
         }
     }
 
@@ -46,9 +46,9 @@ impl Report {
         ensures { said result.now ≡ other_columns self }
     {
         match self {
-            Report::Verdicts => kinds::named_verdict_columns(),
-            Report::Changes => kinds::lock_columns(),
-            Report::Reasons => kinds::answer_columns(),
+            Report::Verdicts => kinds::NAMED_VERDICTS,
+            Report::Changes => kinds::LOCKS,
+            Report::Reasons => kinds::ANSWERS,
             _ => self.usual_columns(),
         }
     }

@@ -5,8 +5,8 @@ ghost use Rattle.csv.specs.Records.{fields_of};
 ghost use Rattle.serde_json.specs.Data.{string};
 ghost use Rattle.serde_json.specs.View.{view};
 ghost use Rattle.serde_json.specs.Written.{comma_if, compact_text, has_float};
-ghost use Rattle.pmp_forms.specs.Columns.{ColumnSaid, column_said, said};
-ghost use Rattle.pmp_forms.specs.Json.{datum, json_text, object_text, row_object};
+ghost use Rattle.pmp_forms.specs.Columns.{ColumnSaid, column_said};
+ghost use Rattle.pmp_forms.specs.Json.{datum, json_text, row_object};
 ghost use Rattle.pmp_forms.specs.Members.{members_from};
 
 use crate::columns::{Column, Columns, Table};
@@ -21,13 +21,6 @@ fn append_value(alloc: Global, out: &mut Vec<u8>, value: &Value) -> Result<(), A
 {
     let text = value.to_string(alloc)?;
     Ok(out.extend_from_slice(text.as_bytes())?)
-}
-
-fn append_name(alloc: Global, out: &mut Vec<u8>, name: &str) -> Result<(), AllocError>
-    ensures { OnOk result (out.new.items ≡ out.old.items ++ compact_text (string name.now)) }
-{
-    let name = Value::String(String::from_str(alloc, name)?);
-    append_value(alloc, out, &name)
 }
 
 /// Returns what a field says in a column.
@@ -58,7 +51,8 @@ fn append_member(
     if index > 0 {
         out.push(b',')?;
     }
-    append_name(alloc, out, column.name())?;
+    let name = Value::String(String::from_str(alloc, column.name())?);
+    append_value(alloc, out, &name)?;
     out.push(b':')?;
     let value = datum(alloc, column, field)?;
     append_value(alloc, out, &value)
@@ -82,22 +76,6 @@ fn append_next(
     }
 }
 
-fn append_object(
-    alloc: Global,
-    out: &mut Vec<u8>,
-    columns: &[Column],
-    fields: &ByteRecord,
-) -> Result<(), AllocError>
-    ensures { OnOk result
-        (out.new.items ≡ out.old.items ++ object_text (said columns.now) (fields_of fields.now)) }
-{
-    out.push(b'{')?;
-    for (index, column) in columns.iter().enumerate() {
-        append_next(alloc, out, index, *column, fields)?;
-    }
-    Ok(out.push(b'}')?)
-}
-
 fn append_row(
     alloc: Global,
     out: &mut Vec<u8>,
@@ -107,7 +85,12 @@ fn append_row(
     ensures { OnOk result
         (out.new.items ≡ out.old.items ++ row_object columns.now.table (fields_of fields.now)) }
 {
-    append_object(alloc, out, columns.of(fields.len()), fields)
+    let under = columns.of(fields.len());
+    out.push(b'{')?;
+    for (index, column) in under.iter().enumerate() {
+        append_next(alloc, out, index, *column, fields)?;
+    }
+    Ok(out.push(b'}')?)
 }
 
 /// Appends rows as a JSON array with an object for each row, each on a line of its own.

@@ -94,18 +94,12 @@ fn append_opening(alloc: Global, out: &mut Vec<u8>, case: &Case) -> Result<(), A
     )
 }
 
-fn append_case(alloc: Global, out: &mut Vec<u8>, case: &Case) -> Result<(), AllocError>
-    ensures { OnOk result (out.new.items ≡ out.old.items ++ case_text (case_said case.now)) }
-{
-    append_opening(alloc, out, case)?;
-    append_ending(alloc, out, case)
-}
-
 fn append_cases(alloc: Global, out: &mut Vec<u8>, cases: &[Case]) -> Result<(), AllocError>
     ensures { OnOk result (out.new.items ≡ out.old.items ++ flat_map case_text (map case_said cases.now)) }
 {
     for case in cases {
-        append_case(alloc, out, case)?;
+        append_opening(alloc, out, case)?;
+        append_ending(alloc, out, case)?;
     }
     Ok(())
 }

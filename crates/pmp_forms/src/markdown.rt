@@ -1,6 +1,5 @@
 //! Rows as tables of Markdown.
 
-ghost use Rattle.std.specs.List.{flat_map};
 ghost use Rattle.std.specs.Prelude.{◌≡◌, ◌++◌, OnOk, codes, length, map};
 ghost use Rattle.csv.specs.Records.{fields_of};
 ghost use Rattle.pmp_forms.specs.Columns.{said};
@@ -34,20 +33,13 @@ fn append_byte(out: &mut Vec<u8>, byte: u8) -> Result<(), AllocError>
     Ok(())
 }
 
-fn append_escaped(out: &mut Vec<u8>, text: &[u8]) -> Result<(), AllocError>
-    ensures { OnOk result (out.new.items ≡ out.old.items ++ flat_map cell_byte text.now) }
-{
-    for byte in text {
-        append_byte(out, *byte)?;
-    }
-    Ok(())
-}
-
 fn append_cell(out: &mut Vec<u8>, text: &[u8]) -> Result<(), AllocError>
     ensures { OnOk result (out.new.items ≡ out.old.items ++ cell text.now) }
 {
     out.push(b' ')?;
-    append_escaped(out, text)?;
+    for byte in text {
+        append_byte(out, *byte)?;
+    }
     Ok(out.extend_from_slice(b" |")?)
 }
 

@@ -1,14 +1,11 @@
 //! Cases as SARIF 2.1.0.
 
 ghost use Rattle.std.specs.List.{flat_map};
-ghost use Rattle.std.specs.Prelude.{◌≡◌, ◌++◌, ◌∷◌, [], IfOk, OnOk, codes, map, string_bytes};
-ghost use Rattle.percent_encoding.specs.Percent.{percent_encode};
+ghost use Rattle.std.specs.Prelude.{◌≡◌, ◌++◌, ◌∷◌, [], IfOk, OnOk, codes, map};
 ghost use Rattle.pmp_forms.specs.Cases.{case_said, cases_of, joined, suite_said};
-ghost use Rattle.pmp_forms.specs.Sarif.{after_comma, elements, head, json_string, level, lint_rule, location};
+ghost use Rattle.pmp_forms.specs.Sarif.{after_comma, elements, json_string, level, lint_rule, location};
 ghost use Rattle.pmp_forms.specs.Sarif.{log_text, reason, region, result_text, results_of, rule_text, rules_of};
 ghost use Rattle.pmp_forms.specs.Sarif.{sarif_text};
-ghost use Rattle.pmp_forms.specs.declared.cases.Check.TheVariants.{Policy};
-ghost use Rattle.pmp_forms.specs.declared.sarif.TheConstants.{ESCAPED};
 ghost use Rattle.pmp_forms.specs.Texts.{text_items};
 
 use crate::cases::{Case, Check, Outcome, Suite, cases_of};
@@ -103,24 +100,16 @@ fn lint_rules(alloc: Global, lints: &[Lint]) -> Result<Vec<Vec<u8>>, AllocError>
     Ok(all)
 }
 
-fn policy_rules(alloc: Global) -> Result<Vec<Vec<u8>>, AllocError>
-    ensures { IfOk result (λ all. text_items all.items ≡ rules_of Policy) }
-{
-    let mut all = Vec::new(alloc);
-    let rule = rule_text(
-        alloc,
-        b"policy",
-        b"What the row of the policy demands holds.",
-    )?;
-    all.push(rule)?;
-    Ok(all)
-}
-
 fn rules_of(alloc: Global, check: Check) -> Result<Vec<Vec<u8>>, AllocError>
     ensures { IfOk result (λ all. text_items all.items ≡ rules_of check) }
 {
     match check {
-        Check::Policy => policy_rules(alloc),
+        Check::Policy => {
+            let mut all = Vec::new(alloc);
+            let text = b"What the row of the policy demands holds.";
+            all.push(rule_text(alloc, b"policy", text)?)?;
+            Ok(all)
+        }
         Check::Lint => lint_rules(alloc, &Lint::ALL),
     }
 }
@@ -152,18 +141,11 @@ fn append_region(out: &mut Vec<u8>, line: Option<u64>) -> Result<(), AllocError>
     }
 }
 
-fn uri(alloc: Global, path: &[u8]) -> Result<String, AllocError>
-    ensures { IfOk result (λ all. string_bytes all ≡ percent_encode ESCAPED path.now) }
-{
-    let mut all = String::new(alloc);
-    percent_encode(path, ESCAPED).append_to(&mut all)?;
-    Ok(all)
-}
-
 fn location(alloc: Global, case: &Case) -> Result<Vec<u8>, AllocError>
     ensures { IfOk result (λ all. all.items ≡ location (case_said case.now)) }
 {
-    let uri = uri(alloc, &case.path)?;
+    let mut uri = String::new(alloc);
+    percent_encode(&case.path, ESCAPED).append_to(&mut uri)?;
     let uri = json_string(alloc, uri.as_bytes())?;
     let mut region = Vec::new(alloc);
     append_region(&mut region, case.line)?;
@@ -196,7 +178,6 @@ fn result_text(alloc: Global, case: &Case) -> Result<Vec<u8>, AllocError>
     let rule = json_string(alloc, &case.rule)?;
     let message = message(alloc, case)?;
     let location = location(alloc, case)?;
-    let level = bytes(alloc, level(case.outcome))?;
     let mut all = Vec::new(alloc);
     append_all(
         &mut all,
@@ -204,7 +185,7 @@ fn result_text(alloc: Global, case: &Case) -> Result<Vec<u8>, AllocError>
             b"{\"ruleId\":",
             rule.as_slice(),
             b",\"level\":\"",
-            level.as_slice(),
+            level(case.outcome),
             b"\",\"message\":{\"text\":",
             message.as_slice(),
             b"},\"locations\":[",
@@ -236,8 +217,9 @@ fn results_of(alloc: Global, cases: &[Case]) -> Result<Vec<Vec<u8>>, AllocError>
     Ok(results)
 }
 
-fn append_head(out: &mut Vec<u8>) -> Result<(), AllocError>
-    ensures { OnOk result (out.new.items ≡ out.old.items ++ head) }
+fn append_log(out: &mut Vec<u8>, rules: &[Vec<u8>], results: &[Vec<u8>]) -> Result<(), AllocError>
+    ensures { OnOk result
+        (out.new.items ≡ out.old.items ++ log_text (text_items rules.now) (text_items results.now)) }
 {
     append_all(
         out,
@@ -245,14 +227,7 @@ fn append_head(out: &mut Vec<u8>) -> Result<(), AllocError>
             b"{\n\"$schema\":\"https://json.schemastore.org/sarif-2.1.0.json\",\n\"version\":\"2.1.0\",\n",
             b"\"runs\":[{\n\"tool\":{\"driver\":{\"name\":\"pmp\",\"rules\":[\n",
         ],
-    )
-}
-
-fn append_log(out: &mut Vec<u8>, rules: &[Vec<u8>], results: &[Vec<u8>]) -> Result<(), AllocError>
-    ensures { OnOk result
-        (out.new.items ≡ out.old.items ++ log_text (text_items rules.now) (text_items results.now)) }
-{
-    append_head(out)?;
+    )?;
     append_elements(out, rules)?;
     out.extend_from_slice(b"]}},\n\"results\":[\n")?;
     append_elements(out, results)?;

@@ -1,5 +1,6 @@
 -- A log that is at hand, read as a whole.
-use Rattle.std.proofs.Common.{◌≡◌, ℕ, List, [], ◌++◌, OnOk, Option, Result, Ok, Err, refl, sym, ap, ◌∙◌, inl, inr, append_assoc, append-nil}
+use Rattle.std.proofs.Common.{◌≡◌, ℕ, List, [], ◌++◌, Result, Ok, Err, refl, sym, ap, ◌∙◌, inl, inr}
+use Rattle.std.proofs.Common.{append_assoc, append-nil}
 use Rattle.pmp_import.specs.declared.fault.ImportFault.{ImportFault}
 use Rattle.pmp_import.specs.declared.format.Format.{Format}
 use Rattle.pmp_import.specs.declared.given.Given.{Given}
@@ -11,27 +12,19 @@ use Rattle.pmp_import.specs.LogTexts.{GivesNone, IsScriptOf, given_by, script_by
 use Rattle.pmp_import.specs.Steps.{EndsWith, FindsFault, FindsOn, GoesOn, StopsAt, StopsAtEnd}
 use Rattle.pmp_import.specs.Surveys.{given_for, nothing_found, surveyed}
 
-pub looked : (format : Format) (hart : Option ℕ) (lines : List (List ℕ)) (survey : Survey)
-    → FindsOn format (nothing_found hart) survey lines → surveyed format hart lines ≡ Ok survey
-looked format hart lines survey finds =
-    ap (surveyed format hart) (sym (append-nil lines)) ∙ finds.finds_on []
-
-pub looked_at_fault : (format : Format) (hart : Option ℕ) (lines : List (List ℕ)) (fault : ImportFault)
-    → FindsFault format (nothing_found hart) lines fault → surveyed format hart lines ≡ Err fault
-looked_at_fault format hart lines fault stops = ap (surveyed format hart) (sym (append-nil lines)) ∙ stops []
-
 -- what is given is by what was found
 pub known : (format : Format) (options : Options) (lines : List (List ℕ)) (survey : Survey)
-    → surveyed format options.hart lines ≡ Ok survey → given_by format options lines ≡ given_for format options survey
-known format options lines survey is = rw (is, given_by) refl
+    → FindsOn format (nothing_found options.hart) survey lines
+    → given_by format options lines ≡ given_for format options survey
+known format options lines survey finds =
+    let is : surveyed format options.hart lines ≡ Ok survey =
+    ap (surveyed format options.hart) (sym (append-nil lines)) ∙ finds.finds_on [] in rw (is, given_by) refl
 
 pub unknown : (format : Format) (options : Options) (lines : List (List ℕ)) (fault : ImportFault)
-    → surveyed format options.hart lines ≡ Err fault → given_by format options lines ≡ Err fault
-unknown format options lines fault is = rw (is, given_by) refl
-
-pub ok_weaker : {T E P Q : Type 0} (result : Result T E) → (P → Q) → OnOk result P → OnOk result Q
-ok_weaker (Ok it) gives given = gives given
-ok_weaker (Err fault) gives given = tt
+    → FindsFault format (nothing_found options.hart) lines fault → given_by format options lines ≡ Err fault
+unknown format options lines fault stops =
+    let is : surveyed format options.hart lines ≡ Err fault =
+    ap (surveyed format options.hart) (sym (append-nil lines)) ∙ stops [] in rw (is, given_by) refl
 
 module _ (format : Format) (options : Options) (lines : List (List ℕ)) (given : Given)
     (is_given : given_by format options lines ≡ Ok given) where
@@ -59,8 +52,5 @@ module _ (format : Format) (options : Options) (lines : List (List ℕ)) (given 
     is_script start after begins ends = record {
       script = head_text given ++ (reads.text ++ ends.text);
       gives = read (Ok ends.text) ends.ends;
-      appended = ends.appended ∙ ap (λ (l : List ℕ). l ++ ends.text)
-          (reads.appended ∙ ap (λ (l : List ℕ). l ++ reads.text) begins)
-          ∙ append_assoc (start ++ head_text given) reads.text ends.text
-          ∙ append_assoc start (head_text given) (reads.text ++ ends.text);
+      appended = rw (ends.appended, reads.appended, begins) (simp append_assoc);
     }

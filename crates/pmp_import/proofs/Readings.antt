@@ -1,13 +1,12 @@
 -- Readings of lines, one after the other.
-use Rattle.std.proofs.Common.{◌≡◌, ℕ, List, [], ◌++◌, Result, Ok, Err, refl, sym, ap, ◌∙◌, inl, inr, append_assoc}
-use Rattle.std.proofs.Common.{append-nil}
+use Rattle.std.proofs.Common.{◌≡◌, ℕ, List, [], ◌++◌, Result, Ok, Err, refl, sym, ap, ◌∙◌, append_assoc, append-nil}
 use Rattle.pmp_import.specs.declared.fault.ImportFault.{ImportFault}
 use Rattle.pmp_import.specs.declared.given.Given.{Given}
 use Rattle.pmp_import.specs.declared.given.Walk.{Walk}
 use Rattle.pmp_import.specs.Imported.{imported_from, with_front}
 use Rattle.pmp_import.specs.declared.format.Format.{Format}
 use Rattle.pmp_import.specs.declared.survey.Survey.{Survey}
-use Rattle.pmp_import.specs.Steps.{FindsFault, FindsOn, GoesOn, StopsAt}
+use Rattle.pmp_import.specs.Steps.{FindsOn, GoesOn}
 use Rattle.pmp_import.specs.Surveys.{surveyed_from}
 
 pub with_both : (one other : List ℕ) (read : Result (List ℕ) ImportFault)
@@ -41,13 +40,6 @@ module _ (given : Given) where
           ∙ with_both one.text other.text (imported_from given new more);
     }
 
-    pub stops_further : (others : List (List ℕ)) (fault : ImportFault) → StopsAt given mid others fault
-        → StopsAt given old (lines ++ others) fault
-    stops_further others fault (inl memory) = inl memory
-    stops_further others fault (inr stops) = inr (λ more.
-        ap (imported_from given old) (append_assoc lines others more) ∙ one.goes_on (others ++ more)
-        ∙ ap (with_front one.text) (stops more))
-
 -- ---- the first reading
 
 module _ (format : Format) where
@@ -61,8 +53,3 @@ module _ (format : Format) where
       finds_on = λ more. ap (surveyed_from format old) (append_assoc lines others more) ∙ one.finds_on (others ++ more)
           ∙ other.finds_on more;
     }
-
-    pub fault_further : (others : List (List ℕ)) (fault : ImportFault) → FindsFault format mid others fault
-        → FindsFault format old (lines ++ others) fault
-    fault_further others fault stops = λ more.
-        ap (surveyed_from format old) (append_assoc lines others more) ∙ one.finds_on (others ++ more) ∙ stops more

@@ -1,8 +1,9 @@
 -- A log in which nothing at fault was found has a script.
 use Rattle.std.proofs.Common.{◌≡◌, ℕ, ◌^◌, List, [], ◌∷◌, Bool, true, false, cond, Option, Some, None, Result}
-use Rattle.std.proofs.Common.{Ok, Err, refl, sym, ap, ◌∙◌, unwrap_or, nat_eq, subst}
+use Rattle.std.proofs.Common.{Ok, Err, refl, sym, ap, ◌∙◌, unwrap_or, nat_eq, subst, true≢false}
+use Rattle.std.proofs.Math.Bool.{or-false, or-true}
 use Rattle.std.specs.Result.{IsOk}
-use Rattle.std.specs.Prelude.{◌||◌, nat_le, option_map, is_some}
+use Rattle.std.specs.Prelude.{nat_le, option_map, is_some}
 use Rattle.std.specs.Option.{option_or}
 use Rattle.std.proofs.lemmas.Bool.{eqb-true, eq-eqb}
 use Rattle.pmp_text.specs.declared.refusal.Refusal.{Refusal}
@@ -17,10 +18,10 @@ use Rattle.pmp_import.specs.declared.said.Told.{Told}
 use Rattle.pmp_import.specs.declared.survey.Survey.{Survey}
 use Rattle.pmp_import.specs.Formats.{line_said}
 use Rattle.pmp_import.specs.Imported
-use Rattle.pmp_import.specs.Imported.{at, beginning, foreign, imported, imported_from, is_of_hart, is_open, is_read}
-use Rattle.pmp_import.specs.Imported.{line_fault, line_of, publish_if, said_text, unless, with_front, head_text}
+use Rattle.pmp_import.specs.Imported.{at, beginning, foreign, imported, imported_from, is_of_hart, is_read}
+use Rattle.pmp_import.specs.Imported.{line_fault, said_text, unless, with_front}
 use Rattle.pmp_import.specs.Surveys
-use Rattle.pmp_import.specs.Surveys.{behind_found, behind_line, first_line, given_for, given_unless, hart_of, is_own}
+use Rattle.pmp_import.specs.Surveys.{behind_found, behind_line, first_line, given_unless, hart_of, is_own}
 use Rattle.pmp_import.specs.Surveys.{nothing_found, survey_fault, surveyed, surveyed_from, with_told}
 use Rattle.pmp_import.specs.Laws.{SurveyedLaw}
 
@@ -41,42 +42,29 @@ further one other = record {
   hart = λ hart e. other.hart hart (one.hart hart e);
 }
 
-kept : (first other : Option ℕ) (line : ℕ) → first ≡ Some line → option_or first other ≡ Some line
-kept first other line e = rw e refl
+-- a survey of which a line was looked at, or not, and its hart was counted, or not
+abbrev behind : (reads own : Bool) → Survey → Told → (hart : ℕ) → Survey
+behind reads own survey told hart =
+    let seen = cond own (with_told survey told) survey in cond reads seen (behind_found seen hart)
 
-told_grows : (survey : Survey) (told : Told) → Grows survey (with_told survey told)
-told_grows survey told = record {
-  wide = λ line e. kept survey.wide _ line e;
-  of_rv32 = λ line e. kept survey.of_rv32 _ line e;
-  hart = λ hart e. e;
-}
-
-found_grows : (survey : Survey) (hart : ℕ) → Grows survey (behind_found survey hart)
-found_grows survey hart = record {
-  wide = λ line e. e;
-  of_rv32 = λ line e. e;
-  hart = λ it e. kept survey.hart _ it e;
-}
-
-seen_grows : (own : Bool) (survey : Survey) (told : Told) → Grows survey (cond own (with_told survey told) survey)
-seen_grows true survey told = told_grows survey told
-seen_grows false survey told = same survey
-
-by_read : (reads : Bool) (old seen : Survey) (hart : ℕ) → Grows old seen
-    → Grows old (cond reads seen (behind_found seen hart))
-by_read true old seen hart grows = grows
-by_read false old seen hart grows = further grows (found_grows seen hart)
-
-behind_grows : (survey : Survey) (said : Said) → Grows survey (Surveys.behind_said survey said)
-behind_grows survey (Register told) =
-    by_read (is_read told.how) survey _ (hart_of survey told) (seen_grows (is_own survey (hart_of survey told)) survey told)
-behind_grows survey (Hart hart) = record { wide = λ line e. e; of_rv32 = λ line e. e; hart = λ hart e. e }
-behind_grows survey Reset = same survey
-behind_grows survey Nothing = record { wide = λ line e. e; of_rv32 = λ line e. e; hart = λ hart e. e }
+told_grows : (reads own : Bool) (survey : Survey) (told : Told) (hart : ℕ)
+    → Grows survey (behind reads own survey told hart)
+told_grows true true survey told hart =
+    record { wide = λ line e. rw e refl; of_rv32 = λ line e. rw e refl; hart = λ it e. e }
+told_grows true false survey told hart = same survey
+told_grows false true survey told hart =
+    record { wide = λ line e. rw e refl; of_rv32 = λ line e. rw e refl; hart = λ it e. rw e refl }
+told_grows false false survey told hart =
+    record { wide = λ line e. e; of_rv32 = λ line e. e; hart = λ it e. rw e refl }
 
 line_grows : (survey : Survey) (said : Said) → Grows survey (behind_line survey said)
-line_grows survey said = let grows = behind_grows survey said in
+line_grows survey (Register told) =
+    let hart = hart_of survey told in
+    let grows = told_grows (is_read told.how) (is_own survey hart) survey told hart in
     record { wide = grows.wide; of_rv32 = grows.of_rv32; hart = grows.hart }
+line_grows survey (Hart hart) = record { wide = λ line e. e; of_rv32 = λ line e. e; hart = λ hart e. e }
+line_grows survey Reset = record { wide = λ line e. e; of_rv32 = λ line e. e; hart = λ hart e. e }
+line_grows survey Nothing = record { wide = λ line e. e; of_rv32 = λ line e. e; hart = λ hart e. e }
 
 module _ (format : Format) where
   by_line : (survey final : Survey) (more : List (List ℕ)) (read : Result Said Refusal)
@@ -94,14 +82,6 @@ module _ (format : Format) where
   all_grow [] survey final e = let is : survey ≡ final = cc in subst (Grows survey) is (same survey)
   all_grow (line ∷ more) survey final e =
       by_line survey final more (line_said format line) (λ said. all_grow more (behind_line survey said) final) e
-
-or_none : (a : Bool) → (a || false) ≡ false → a ≡ false
-or_none true e = absurd cc
-or_none false e = refl
-
-or_all : (a : Bool) → (a || true) ≡ false → ⊥
-or_all true e = absurd cc
-or_all false e = absurd cc
 
 -- ---- two readings side by side
 
@@ -137,33 +117,25 @@ module _ (given : Given) (final : Survey) (fine : IsFine given final) where
 
   -- ---- a line
 
-  some_first : (first : Option ℕ) (line : ℕ) → (it : ℕ) × (option_or first (Some line) ≡ Some it)
-  some_first None line = (line, refl)
-  some_first (Some it) line = (it, refl)
+  -- there is no line of a kind of which none was found
+  none_there : (first later : Option ℕ) (line : ℕ) (is_one : Bool)
+      → ((it : ℕ) → first_line first is_one line ≡ Some it → later ≡ Some it) → later ≡ None → is_one ≡ false
+  none_there first later line false grows none = refl
+  none_there None later line true grows none = let found : later ≡ Some line = grows line refl in absurd cc
+  none_there (Some it) later line true grows none = let found : later ≡ Some it = grows it refl in absurd cc
 
   -- what a line tells of the hart is looked at, whether it is read or written
-  wide_told : (own reads : Bool) (survey : Survey) (told : Told) (hart : ℕ) → own ≡ true
-      → let seen = cond own (with_told survey told) survey in
-      (cond reads seen (behind_found seen hart)).wide ≡ (with_told survey told).wide
-  wide_told true true survey told hart e = refl
-  wide_told true false survey told hart e = refl
-  wide_told false reads survey told hart e = absurd cc
-
-  rv32_told : (own reads : Bool) (survey : Survey) (told : Told) (hart : ℕ) → own ≡ true
-      → let seen = cond own (with_told survey told) survey in
-      (cond reads seen (behind_found seen hart)).of_rv32 ≡ (with_told survey told).of_rv32
-  rv32_told true true survey told hart e = refl
-  rv32_told true false survey told hart e = refl
-  rv32_told false reads survey told hart e = absurd cc
+  looked_at : (reads own : Bool) (survey : Survey) (told : Told) (hart : ℕ) → own ≡ true
+      → ((behind reads own survey told hart).wide ≡ (with_told survey told).wide)
+      × ((behind reads own survey told hart).of_rv32 ≡ (with_told survey told).of_rv32)
+  looked_at true true survey told hart e = (refl, refl)
+  looked_at false true survey told hart e = (refl, refl)
+  looked_at reads false survey told hart e = absurd cc
 
   no_fault : (is_rv32 : Bool) (told : Told) → (is_rv32 ≡ true → nat_le (2 ^ 32) told.value ≡ false)
       → (is_rv32 ≡ false → told.is_rv32 ≡ false) → foreign is_rv32 told ≡ None
   no_fault true told wide rv32 = rw (wide refl) refl
   no_fault false told wide rv32 = rw (rv32 refl) refl
-
-  not_so : (b : Bool) → (b ≡ true → ⊥) → b ≡ false
-  not_so true never = absurd (never refl)
-  not_so false never = refl
 
   line_is_fine : (survey : Survey) (walk : Walk) (told : Told) → survey.shown ≡ walk.shown
       → Grows survey final → Grows (behind_line survey (Register told)) final
@@ -171,23 +143,14 @@ module _ (given : Given) (final : Survey) (fine : IsFine given final) where
       → cond ours (foreign given.is_rv32 told) None ≡ None
   line_is_fine survey walk told shown now later false e = refl
   line_is_fine survey walk told shown now later true e =
-      let own = is_ours survey walk told shown now e in
       let hart = hart_of survey told in
+      let seen = looked_at (is_read told.how) (is_own survey hart) survey told hart
+      (is_ours survey walk told shown now e) in
       no_fault given.is_rv32 told
-      (λ is. not_so (nat_le (2 ^ 32) told.value) (λ wide.
-      let (it, some) = some_first survey.wide survey.line in
-      let found : (behind_line survey (Register told)).wide ≡ Some it =
-      wide_told (is_own survey hart) (is_read told.how) survey told hart own
-      ∙ ap (λ (b : Bool). first_line survey.wide b survey.line) wide ∙ some in
-      let none : final.wide ≡ None = fine.wide is in
-      let all : final.wide ≡ Some it = later.wide it found in absurd cc))
-      (λ is. not_so told.is_rv32 (λ of_rv32.
-      let (it, some) = some_first survey.of_rv32 survey.line in
-      let found : (behind_line survey (Register told)).of_rv32 ≡ Some it =
-      rv32_told (is_own survey hart) (is_read told.how) survey told hart own
-      ∙ ap (λ (b : Bool). first_line survey.of_rv32 b survey.line) of_rv32 ∙ some in
-      let none : final.of_rv32 ≡ None = fine.of_rv32 is in
-      let all : final.of_rv32 ≡ Some it = later.of_rv32 it found in absurd cc))
+      (λ is. none_there survey.wide final.wide survey.line (nat_le (2 ^ 32) told.value)
+      (λ it found. later.wide it (seen.0 ∙ found)) (fine.wide is))
+      (λ is. none_there survey.of_rv32 final.of_rv32 survey.line told.is_rv32
+      (λ it found. later.of_rv32 it (seen.1 ∙ found)) (fine.of_rv32 is))
 
   fine_line : (survey : Survey) (walk : Walk) (said : Said) → survey.shown ≡ walk.shown
       → Grows survey final → Grows (behind_line survey said) final → line_fault given walk said ≡ None
@@ -204,10 +167,6 @@ module _ (given : Given) (final : Survey) (fine : IsFine given final) where
   known_hart None hart e = refl
   known_hart (Some it) hart e = ap Some (eqb-true it hart e)
 
-  seen_hart : (own : Bool) (survey : Survey) (told : Told) → (cond own (with_told survey told) survey).hart ≡ survey.hart
-  seen_hart true survey told = refl
-  seen_hart false survey told = refl
-
   seen_own : (own : Bool) (survey : Survey) (told : Told) → (cond own (with_told survey told) survey).own ≡ survey.own
   seen_own true survey told = refl
   seen_own false survey told = refl
@@ -216,7 +175,7 @@ module _ (given : Given) (final : Survey) (fine : IsFine given final) where
       (now : Grows survey final) (later : Grows (behind_line survey (Register told)) final) where
     found_before : (ours : Bool) → is_of_hart given walk told ≡ ours → is_read told.how ≡ true
         → (Imported.behind_said given walk (Register told)).is_found ≡ false → walk.is_found ≡ false
-    found_before true is reads lacks = or_none walk.is_found (rw (is, reads) at lacks)
+    found_before true is reads lacks = sym (or-false walk.is_found) ∙ (rw (is, reads) at lacks)
     found_before false is reads lacks = rw is at lacks
 
     -- the survey's own hart is the script's
@@ -232,7 +191,7 @@ module _ (given : Given) (final : Survey) (fine : IsFine given final) where
     found_then true ours own is reads lacks =
         let ours_is : is_of_hart given walk told ≡ true =
         rw (← agrees.shown) (eq-eqb _ _ (sym (given_is reads own))) in
-        absurd (or_all walk.is_found (rw (ours_is, reads) at lacks))
+        absurd (true≢false (sym (or-true walk.is_found) ∙ (rw (ours_is, reads) at lacks)))
     found_then false true own is reads lacks =
         let owned = is_ours survey walk told agrees.shown now is in absurd cc
     found_then false false own is reads lacks = rw (reads, own, own) (agrees.found (rw is at lacks))
@@ -245,8 +204,7 @@ module _ (given : Given) (final : Survey) (fine : IsFine given final) where
     found_by false reads lacks =
         found_then (is_own survey (hart_of survey told)) (is_of_hart given walk told) refl refl reads lacks
 
-    shown_there : (reads own : Bool) (hart : ℕ) → let seen = cond own (with_told survey told) survey in
-        (cond reads seen (behind_found seen hart)).shown ≡ survey.shown
+    shown_there : (reads own : Bool) (hart : ℕ) → (behind reads own survey told hart).shown ≡ survey.shown
     shown_there true true hart = refl
     shown_there true false hart = refl
     shown_there false true hart = refl

@@ -107,14 +107,9 @@ impl<'a> fmt::Display for KeptLines<'a> {
     ghost output = { λ lines. Some (kept_lines lines.word.now lines.is_rv32 lines.register lines.value) };
 
     fn fmt<W: fmt::Write>(&self, f: &mut fmt::Formatter<W>) -> fmt::Result {
-        let KeptLines {
-            word,
-            is_rv32,
-            register,
-            value,
-        } = *self;
-        let kept = kept_of(is_rv32, register, value);
-        let line = ValueLine(word, register, kept);
+        let (register, value) = (self.register, self.value);
+        let kept = kept_of(self.is_rv32, register, value);
+        let line = ValueLine(self.word, register, kept);
         if kept == value {
             write!(f, "{line}")
         } else {

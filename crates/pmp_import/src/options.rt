@@ -67,17 +67,14 @@ impl Options {
 fn survey_fault(is_rv32: bool, survey: &Survey) -> Option<ImportFault>
     ensures { result ≡ survey_fault is_rv32 survey.now }
 {
-    let foreign = if is_rv32 { survey.wide } else { survey.of_rv32 };
-    if let Some(line) = foreign {
-        let kind = if is_rv32 {
-            Refusal::BadNumber
-        } else {
-            Refusal::OddCfg
-        };
-        return Some(ImportFault::at(line, kind));
+    let (foreign, kind) = if is_rv32 {
+        (survey.wide, Refusal::BadNumber)
+    } else {
+        (survey.of_rv32, Refusal::OddCfg)
+    };
+    match foreign {
+        Some(line) => Some(ImportFault::at(line, kind)),
+        None if survey.own == 0 => Some(ImportFault::at(0, Refusal::NoHart)),
+        None => None,
     }
-    if survey.own == 0 {
-        return Some(ImportFault::at(0, Refusal::NoHart));
-    }
-    None
 }

@@ -1,10 +1,10 @@
 //! Spike's commit log.
 
-ghost use Rattle.std.specs.Prelude.{◌≡◌, ◌<◌, ◌^◌, is_some, position};
+ghost use Rattle.std.specs.Prelude.{◌≡◌, is_some, position};
 ghost use Rattle.std.specs.List.{after_first, before_first, list_any};
 ghost use Rattle.pmp_text.specs.Lines.{words};
 ghost use Rattle.pmp_import.specs.Said.{names_register};
-ghost use Rattle.pmp_import.specs.Spike.{commit_told, csr_committed, csr_numbered, is_code, is_listing, is_low_line, is_mode};
+ghost use Rattle.pmp_import.specs.Spike.{commit_told, csr_committed, is_code, is_listing, is_low_line, is_mode};
 ghost use Rattle.pmp_import.specs.Spike.{sized_number, spike_said, written_at, written_in};
 
 use crate::said::{How, Said, Told, names_register, read_hex};
@@ -43,7 +43,7 @@ fn read_commit(mut line: Words) -> Option<Told>
     let mode = line.next()?;
     let address = line.next()?;
     let code = line.next()?;
-    if core != b"core".as_slice() || !is_mode(mode) || !is_code(code) {
+    if core != b"core".as_slice() || !is_mode(mode) || read_code(code).is_none() {
         return None;
     }
     read_written(number, address, line)
@@ -53,12 +53,6 @@ fn is_mode(word: &[u8]) -> bool
     ensures { result ≡ is_mode word.now }
 {
     matches!(word, b"0" | b"1" | b"2" | b"3")
-}
-
-fn is_code(word: &[u8]) -> bool
-    ensures { result ≡ is_code word.now }
-{
-    read_code(word).is_some()
 }
 
 /// Returns the code of an instruction.
@@ -160,12 +154,5 @@ fn read_csr(is_rv32: bool, word: &[u8]) -> Option<Csr>
     if named != number || number >= 1 << 16 {
         return None;
     }
-    csr_numbered(is_rv32, number)
-}
-
-fn csr_numbered(is_rv32: bool, number: u64) -> Option<Csr>
-    requires { number < 2 ^ 16 }
-    ensures { result ≡ csr_numbered is_rv32 number }
-{
     Csr::on(is_rv32, number as u16).ok()
 }

@@ -141,13 +141,10 @@ impl Survey {
         ensures ok { OnOk result (FindsOn format self.old self.new (line.now ∷ [])) }
         ensures err { IfErr result (FindsFault format self.old (line.now ∷ [])) }
     {
-        match format.read(line) {
-            Ok(said) => {
-                self.take(said);
-                Ok(())
-            }
-            Err(refusal) => Err(ImportFault::at(self.line, refusal)),
-        }
+        let number = self.line;
+        let said = format.read(line);
+        self.take(said.map_err(|refusal| ImportFault::at(number, refusal))?);
+        Ok(())
     }
 
     /// Takes in the lines of a text, up to the first fault.

@@ -1,6 +1,7 @@
 -- The names of harts, in lists of them.
 use Rattle.std.proofs.Common.{◌≡◌, ◌∙◌, refl, sym, ap, inl, inr, ℕ, suc, zero, ◌+◌, ◌<◌, ◌≤◌, arith, List, [], ◌∷◌, ◌++◌, length, get_or}
 use Rattle.std.proofs.Common.{Bool, true, false, cond, ◌&&◌, true≢false}
+use Rattle.std.proofs.Math.Bool.{and-false}
 use Rattle.std.specs.Cmp.Lexicographic.{bytes_decides, pointwise, slice_cmp}
 use Rattle.std.specs.List.{filter, list_all}
 use Rattle.std.specs.List.Sorted.{IsPermutation, IsSorted}
@@ -19,13 +20,9 @@ use Rattle.pmp_names.specs.declared.harts.TheConstants.{HARTS}
 use Rattle.pmp_names.specs.HartLists.{AddsFile, AreNames, names_of}
 use Rattle.pmp_names.specs.HartNames.{AreHarts, HasNoHarts, is_hart_name, is_script, name_cmp, order_key}
 
-and_false : (b : Bool) → (b && false) ≡ false
-and_false true = refl
-and_false false = refl
-
 one_more : (shown : Bool) (file : List ℕ) (rest : List (List ℕ)) → list_all is_hart_name rest ≡ false
     → list_all is_hart_name (cond shown (file ∷ rest) rest) ≡ false
-one_more true file rest bad = ap (λ all. is_hart_name file && all) bad ∙ and_false (is_hart_name file)
+one_more true file rest bad = ap (λ all. is_hart_name file && all) bad ∙ and-false (is_hart_name file)
 one_more false file rest bad = bad
 
 -- a script with which no row can begin is among the files
@@ -101,26 +98,18 @@ no_harts files i file inside at refusal (inr (is, shown, bad)) =
           (bad_script files i file inside (ap is_script at ∙ shown) (ap is_hart_name at ∙ bad)),
     )
 
-first_of : (other : List ℕ) → List (List ℕ) → List ℕ
-first_of other [] = other
-first_of other (name ∷ names) = name
-
-rest_of : List (List ℕ) → List (List ℕ)
-rest_of [] = []
-rest_of (name ∷ names) = names
-
 pub same_harts : (first second : List HartName) → names_of first ≡ names_of second
     → pointwise hart_eq first second ≡ true
-unfolding first_of rest_of
 same_harts [] [] same = refl
 same_harts [] (other ∷ others) same = absurd cc
 same_harts (hart ∷ harts) [] same = absurd cc
 same_harts (hart ∷ harts) (other ∷ others) same =
-    let name = ap (first_of hart.name.bytes) same in
+    let name : hart.name.bytes ≡ other.name.bytes = cc in
+    let rest : names_of harts ≡ names_of others = cc in
     rw (
       (bytes_decides hart.key.items other.key.items).1 (hart.is_key ∙ ap order_key name ∙ sym other.is_key),
       (bytes_decides hart.name.bytes other.name.bytes).1 name,
-    ) (same_harts harts others (ap rest_of same))
+    ) (same_harts harts others rest)
 
 -- what was read of a folder, in order
 pub are_harts : (files : List (List ℕ)) (read sorted : List HartName) → AreNames files read → 1 ≤ length read

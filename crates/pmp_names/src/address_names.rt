@@ -2,7 +2,7 @@
 
 ghost use Rattle.std.specs.Prelude.{◌≡◌, ◌⊎◌, Err, IfErr, IfOk, Ok, OnOk, map};
 ghost use Rattle.pmp_text.specs.Lines.{lines};
-ghost use Rattle.pmp_names.specs.AddressNames.{names_from, names_said, no_header};
+ghost use Rattle.pmp_names.specs.AddressNames.{names_from, names_said};
 ghost use Rattle.pmp_names.specs.NameLists.{AddsName, IsFaultOf, named, no_memory};
 
 use crate::address_name::AddressName;
@@ -31,16 +31,6 @@ impl From<AllocError> for NamesFault {
     }
 }
 
-fn no_header() -> NamesFault
-    ensures { result ≡ no_header }
-{
-    NamesFault {
-        refusal: Refusal::BadHeader,
-        row: 0,
-        field: None,
-    }
-}
-
 /// Returns the names that a text gives: the line `first,last,name`, and a line with these three fields for each name.
 pub fn read_names<'a>(alloc: Global, text: &'a [u8]) -> Result<Vec<AddressName<'a>>, NamesFault>
     ensures ok { IfOk result (λ names. names_said text.now ≡ Ok (map named names.items)) }
@@ -48,7 +38,11 @@ pub fn read_names<'a>(alloc: Global, text: &'a [u8]) -> Result<Vec<AddressName<'
 {
     match split_first_line(text) {
         Some((header, rows)) if header == b"first,last,name".as_slice() => read_rows(alloc, rows),
-        _ => Err(no_header()),
+        _ => Err(NamesFault {
+            refusal: Refusal::BadHeader,
+            row: 0,
+            field: None,
+        }),
     }
 }
 

@@ -1,17 +1,15 @@
 //! Pictures with the names that their bands meet, in a last column.
 
-ghost use Rattle.std.specs.Prelude.{◌≡◌, ◌++◌, OnOk, Some, map};
+ghost use Rattle.std.specs.Prelude.{◌≡◌, ◌++◌, OnOk, map};
 ghost use Rattle.pmp_names.specs.AddressNames.{met_names};
-ghost use Rattle.pmp_names.specs.NamedPictures.{band_with_names, cell_text, column_text, escaped, escaped_byte};
-ghost use Rattle.pmp_names.specs.NamedPictures.{line_with_names, number_at, picture_with_names, wide_opening, widened};
+ghost use Rattle.pmp_names.specs.NamedPictures.{band_with_names, cell_text, column_text, escaped_byte};
+ghost use Rattle.pmp_names.specs.NamedPictures.{line_with_names, number_at, picture_with_names, widened};
 ghost use Rattle.pmp_names.specs.NameLists.{named};
 
 use crate::address_name::AddressName;
 use crate::named_rows::{append_met, field_at, first_field};
 use pmp_text::{append_line, read_word_number, split_first_line};
 use std::alloc::AllocError;
-use std::fmt;
-use std::fmt::Write;
 
 /// The last tag of a band.
 const BAND_END: &[u8] = b"</g>";
@@ -25,28 +23,17 @@ fn number_at(line: &[u8], separator: u8, index: usize) -> Option<u64>
     read_word_number(first_field(part, b'<'))
 }
 
-/// The first tag of a picture of this height, with room for a column of names.
-#[derive(Clone, Copy)]
-struct WideOpening(u64);
-
-impl fmt::Display for WideOpening {
-    ghost output = { λ tag. Some (wide_opening tag.0) };
-
-    fn fmt<W: fmt::Write>(&self, f: &mut fmt::Formatter<W>) -> fmt::Result {
-        let height = self.0;
-        write!(
-            f,
-            "<svg xmlns='http://www.w3.org/2000/svg' width='1280' height='{height}' viewBox='0 0 1280 {height}'>"
-        )
-    }
-}
-
 /// Appends the first tag of a picture, with room for a column of names.
 fn append_widened(out: &mut Vec<u8>, line: &[u8]) -> Result<(), AllocError>
     ensures { OnOk result (out.new.items ≡ out.old.items ++ widened line.now) }
 {
     match number_at(line, b'\'', 5) {
-        Some(height) => append_line(out, WideOpening(height)),
+        Some(height) => append_line(
+            out,
+            format_args!(
+                "<svg xmlns='http://www.w3.org/2000/svg' width='1280' height='{height}' viewBox='0 0 1280 {height}'>"
+            ),
+        ),
         None => Ok(out.extend_from_slice(line)?),
     }
 }
@@ -63,37 +50,19 @@ fn append_byte(out: &mut Vec<u8>, byte: u8) -> Result<(), AllocError>
     }
 }
 
-/// Appends a text as XML writes it.
-fn append_escaped(out: &mut Vec<u8>, text: &[u8]) -> Result<(), AllocError>
-    ensures { OnOk result (out.new.items ≡ out.old.items ++ escaped text.now) }
-{
-    for byte in text {
-        append_byte(out, *byte)?;
-    }
-    Ok(())
-}
-
 /// Appends names as a column's text.
 #[tactic(auto, unfolding(crate::specs::NamedPictures::cell_text))]
 fn append_cell(out: &mut Vec<u8>, found: &[u8]) -> Result<(), AllocError>
     ensures { OnOk result (out.new.items ≡ out.old.items ++ cell_text found.now) }
 {
     out.extend_from_slice(b"<text x='936'>")?;
-    append_escaped(out, found)?;
+    for byte in found {
+        append_byte(out, *byte)?;
+    }
     Ok(out.extend_from_slice(b"</text>")?)
 }
 
-/// Appends the names that were found for a band, if there are any.
-fn append_column(out: &mut Vec<u8>, found: &[u8]) -> Result<(), AllocError>
-    ensures { OnOk result (out.new.items ≡ out.old.items ++ column_text found.now) }
-{
-    match found {
-        [] => Ok(()),
-        [_, ..] => append_cell(out, found),
-    }
-}
-
-/// Appends the names that overlap a band.
+/// Appends the names that overlap a band, if there are any.
 fn append_names(
     out: &mut Vec<u8>,
     names: &[AddressName<'_>],
@@ -105,7 +74,10 @@ fn append_names(
 {
     let mut found = Vec::new(*out.allocator());
     append_met(&mut found, names, first, last)?;
-    append_column(out, &found)
+    match found.as_slice() {
+        [] => Ok(()),
+        [_, ..] => append_cell(out, &found),
+    }
 }
 
 /// Appends a line, with the names that overlap it if it is a band.

@@ -1,35 +1,20 @@
 //! Rows with the names that overlap their ranges.
 
-ghost use Rattle.std.specs.Prelude.{◌≡◌, ◌++◌, OnOk, Some, map, option_map};
+ghost use Rattle.std.specs.Prelude.{◌≡◌, ◌++◌, OnOk, map, option_map};
 ghost use Rattle.std.specs.List.{before_first};
 ghost use Rattle.pmp_names.specs.AddressNames.{address_at, field_at, is_separator, is_whole, meets, met_name};
-ghost use Rattle.pmp_names.specs.AddressNames.{met_names, names_between, offset_text, rows_with_names, with_names};
+ghost use Rattle.pmp_names.specs.AddressNames.{met_names, names_between, rows_with_names, with_names};
 ghost use Rattle.pmp_names.specs.NameLists.{named};
 
 use crate::address_name::{AddressName, split_once};
 use pmp_text::{ADDRESS_DIGITS, append_line, read_numeral, split_first_line};
 use std::alloc::AllocError;
-use std::fmt;
-use std::fmt::Write;
 
 /// Which fields of a row, counted from 0, are the first and the last byte address of a range.
 #[derive(Clone, Copy)]
 pub struct Columns {
     pub first: usize,
     pub last: usize,
-}
-
-/// The offset of a part of a named range from its beginning.
-#[derive(Clone, Copy)]
-struct Offset(u64);
-
-impl fmt::Display for Offset {
-    ghost output = { λ offset. Some (offset_text offset.0) };
-
-    fn fmt<W: fmt::Write>(&self, f: &mut fmt::Formatter<W>) -> fmt::Result {
-        let offset = self.0;
-        write!(f, "+0x{offset:x}")
-    }
 }
 
 impl<'a> AddressName<'a> {
@@ -51,7 +36,8 @@ impl<'a> AddressName<'a> {
     {
         out.extend_from_slice(self.name)?;
         if !self.is_whole(first, last) {
-            append_line(out, Offset(first.max(self.first) - self.first))?;
+            let offset = first.max(self.first) - self.first;
+            append_line(out, format_args!("+0x{offset:x}"))?;
         }
         Ok(())
     }

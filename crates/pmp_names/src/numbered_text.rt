@@ -1,7 +1,6 @@
 //! Texts of fields, with numbers instead of names.
 
-ghost use Rattle.std.specs.Prelude.{◌≡◌, ◌++◌, ◌∷◌, ◌<◌, IfOk, IfSome, List, OnOk, Some, codes, false, length, map, ℕ};
-ghost use Rattle.std.specs.Fmt.{digits};
+ghost use Rattle.std.specs.Prelude.{◌≡◌, ◌++◌, ◌∷◌, ◌<◌, IfOk, IfSome, List, OnOk, length, map, ℕ};
 ghost use Rattle.pmp_names.specs.AddressNames.{Named};
 ghost use Rattle.pmp_names.specs.NumberedTexts.{after, fields_of, is_quoted, numbered_field, numbered_fields, numbered_row};
 ghost use Rattle.pmp_names.specs.NumberedTexts.{numbered_text, outside, parts_of, said_below};
@@ -12,21 +11,6 @@ use crate::address_name::AddressName;
 use crate::named_address::{read_end, read_place};
 use pmp_text::append_line;
 use std::alloc::{AllocError, Global};
-use std::fmt;
-use std::fmt::Write;
-
-/// An address in a text.
-#[derive(Clone, Copy)]
-struct Number(u64);
-
-impl fmt::Display for Number {
-    ghost output = { λ number. Some (codes "0x" ++ digits 16 false number.0) };
-
-    fn fmt<W: fmt::Write>(&self, f: &mut fmt::Formatter<W>) -> fmt::Result {
-        let address = self.0;
-        write!(f, "0x{address:x}")
-    }
-}
 
 /// Where a byte stands, by the quotes before it. Only quotes at the beginning of a field open a quoted part.
 #[derive(Clone, Copy)]
@@ -116,7 +100,7 @@ fn append_field(
     ensures { OnOk result (out.new.items ≡ out.old.items ++ numbered_field (map named names.now) head.now field.now) }
 {
     match read_below(names, head, field) {
-        Some(address) => append_line(out, Number(address)),
+        Some(address) => append_line(out, format_args!("0x{address:x}")),
         None => Ok(out.extend_from_slice(field)?),
     }
 }
@@ -156,25 +140,6 @@ fn append_row(
     Ok(())
 }
 
-/// Appends a text whose first line is the header of the others, with numbers instead of names.
-fn append_numbered(
-    out: &mut Vec<u8>,
-    names: &[AddressName<'_>],
-    text: &[u8],
-) -> Result<(), AllocError>
-    ensures { OnOk result (out.new.items ≡ out.old.items ++ numbered_text (map named names.now) text.now) }
-{
-    let (header, mut rest) = split_part(text, b'\n');
-    out.extend_from_slice(header)?;
-    while let Some(behind) = rest {
-        let (row, rows) = split_part(behind, b'\n');
-        out.push(b'\n')?;
-        append_row(out, names, header, row)?;
-        rest = rows;
-    }
-    Ok(())
-}
-
 /// Returns a text whose first line is the header of the others, with numbers instead of these names in the fields of
 /// addresses.
 pub fn number_text(
@@ -185,6 +150,13 @@ pub fn number_text(
     ensures { IfOk result (λ all. all.items ≡ numbered_text (map named names.now) text.now) }
 {
     let mut all = Vec::new(alloc);
-    append_numbered(&mut all, names, text)?;
+    let (header, mut rest) = split_part(text, b'\n');
+    all.extend_from_slice(header)?;
+    while let Some(behind) = rest {
+        let (row, rows) = split_part(behind, b'\n');
+        all.push(b'\n')?;
+        append_row(&mut all, names, header, row)?;
+        rest = rows;
+    }
     Ok(all)
 }

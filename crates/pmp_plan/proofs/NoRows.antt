@@ -1,6 +1,6 @@
 -- mseccfg alone meets a plan without rows.
 use Rattle.std.proofs.Common.{◌≡◌, ◌≢◌, ap, arith, refl, sym, ℕ, zero, suc, ◌<◌, ◌∷◌, [], Bool, false, true, List, None}
-use Rattle.std.proofs.Common.{length, nat_eq, nat_lt, replicate}
+use Rattle.std.proofs.Common.{length, nat_eq, replicate}
 use Rattle.std.proofs.lemmas.Bool.{eqb-true, lt-ltb}
 use Rattle.std.proofs.lemmas.List.{length-replicate}
 use Rattle.pmp_core.specs.declared.csr.Csr.TheVariants.{Mseccfg}
@@ -25,10 +25,6 @@ fields security = record { mml = security.mml; mmwp = security.mmwp; rlb = secur
 abbrev bits : (mml mmwp rlb : Bool) → Security
 bits mml mmwp rlb = record { mml = mml; mmwp = mmwp; rlb = rlb }
 
--- a hart with entries is one
-has_some : (n : ℕ) → 0 < n → nat_lt 0 n ≡ true
-has_some n some = lt-ltb 0 n some
-
 none_locked : (n : ℕ) → is_any_locked (replicate n reset_entry) ≡ false
 none_locked zero = refl
 none_locked (suc n) = none_locked n
@@ -45,7 +41,7 @@ module _ (hart : Profile) (some : 0 < hart.entries) where
   given security byte = (
     None,
     λ i matches. matches_nothing security byte i matches,
-    rw (length-replicate hart.entries reset_entry, has_some hart.entries some) refl,
+    rw (length-replicate hart.entries reset_entry, lt-ltb 0 hart.entries some) refl,
   )
 
   meets : (security : Security) → MeetsPlan hart security [] (secured_file security)

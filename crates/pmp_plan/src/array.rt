@@ -1,13 +1,12 @@
 //! The writes of a plan as an array in C.
 
-ghost use Rattle.std.specs.Prelude.{◌≡◌, ◌++◌, OnOk, Some, true};
+ghost use Rattle.std.specs.Prelude.{◌≡◌, ◌++◌, OnOk, true};
 ghost use Rattle.std.specs.List.{list_all};
 ghost use Rattle.pmp_core.specs.Histories.{is_write};
 ghost use Rattle.pmp_plan.specs.PlanArrays.{array_line, array_text, csr_number};
 
 use pmp_core::{Csr, Event};
 use pmp_text::{NoMemory, RegisterName, Sink, append_line};
-use std::fmt;
 
 /// Returns the number of a register (Volume II, 2.2).
 fn csr_number(csr: Csr) -> u16
@@ -21,22 +20,20 @@ fn csr_number(csr: Csr) -> u16
     }
 }
 
-/// An event as an element of the array.
-#[derive(Clone, Copy)]
-struct Element(Event);
-
-impl fmt::Display for Element {
-    ghost output = { λ element. Some (array_line element.0) };
-
-    fn fmt<W: fmt::Write>(&self, f: &mut fmt::Formatter<W>) -> fmt::Result {
-        match self.0 {
-            Event::Write(csr, value) => {
-                let number = csr_number(csr);
-                let name = RegisterName(csr);
-                write!(f, "    {{0x{number:x}, 0x{value:x}}}, /* {name} */\n")
-            }
-            Event::Reset => Ok(()),
+/// Appends an event as an element of the array.
+fn append_element<S: Sink>(out: &mut S, event: Event) -> Result<(), NoMemory>
+    ensures { OnOk result (S.text out.new ≡ S.text out.old ++ array_line event) }
+{
+    match event {
+        Event::Write(csr, value) => {
+            let number = csr_number(csr);
+            let name = RegisterName(csr);
+            append_line(
+                out,
+                format_args!("    {{0x{number:x}, 0x{value:x}}}, /* {name} */\n"),
+            )
         }
+        Event::Reset => Ok(()),
     }
 }
 
@@ -61,7 +58,7 @@ pub fn append_array<S: Sink>(out: &mut S, writes: &[Event]) -> Result<(), NoMemo
         b"static const struct { unsigned csr; unsigned long long value; } pmp_writes[] = {\n",
     )?;
     for event in writes {
-        append_line(out, Element(*event))?;
+        append_element(out, *event)?;
     }
     out.append(b"};\n")
 }

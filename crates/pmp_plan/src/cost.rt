@@ -50,16 +50,13 @@ fn is_block(left: ByteRange) -> bool {
 impl Groups {
     fn add(&mut self, part: &Part, left: ByteRange, entries: usize) {
         for index in 0..PAIRS {
-            let Some(group) = self.list[index] else {
-                self.list[index] = Some(Group {
-                    rights: part.demand.rights,
-                    hull: left,
-                    parts: 1,
-                    entries,
-                    has_gap: false,
-                });
-                return;
-            };
+            let group = self.list[index].unwrap_or(Group {
+                rights: part.demand.rights,
+                hull: left,
+                parts: 0,
+                entries: 0,
+                has_gap: false,
+            });
             if group.has(part) {
                 self.list[index] = Some(Group {
                     hull: ByteRange {

@@ -51,7 +51,7 @@ pub fn behind_frozen(parts: &Parts, start: &RegFile) -> State {
 
 impl<'a> Layout<'a> {
     /// Whether no write changes the entry's address register.
-    pub fn is_fixed(&self, place: usize) -> bool {
+    fn is_fixed(&self, place: usize) -> bool {
         let registers = self.start.registers();
         place >= registers.count() || registers.is_address_frozen(place)
     }
@@ -110,11 +110,7 @@ impl<'a> Layout<'a> {
                 target.addresses[place] = address_before(self.wanted, index);
             }
         }
-        if index >= self.count {
-            Some(target)
-        } else {
-            None
-        }
+        (index >= self.count).then_some(target)
     }
 }
 

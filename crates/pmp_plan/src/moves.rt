@@ -51,11 +51,6 @@ impl Candidate {
         self.entry(self.rule | TOR, end / 4)
     }
 
-    /// Returns an entry at whose address another one's range begins.
-    fn low_entry(&self) -> Chosen {
-        self.entry(self.rule & LOCK, self.first / 4)
-    }
-
     /// Takes the largest block.
     fn take_block(&self, parts: &Parts, from: &State, levels: &mut Levels<'_>) {
         if let Some(block) = parts.block_at(self.first, self.room) {
@@ -76,13 +71,13 @@ impl Candidate {
         }
     }
 
-    /// Takes the longest range, and before it an entry that is OFF for its beginning.
+    /// Takes the longest range, and before it an entry that is OFF, at whose address the range begins.
     fn take_two(&self, parts: &Parts, from: &State, levels: &mut Levels<'_>) {
         let (start, end) = (self.first, parts.top_at(self.room.end));
         if end <= start {
             return;
         }
-        let low = self.low_entry();
+        let low = self.entry(self.rule & LOCK, self.first / 4);
         let between = from.behind(parts, low, ByteRange::EMPTY, self.is_frozen);
         let entry = self.top_entry(end);
         levels.offer(between.behind(parts, entry, ByteRange { start, end }, self.is_frozen));

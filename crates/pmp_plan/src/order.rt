@@ -19,6 +19,11 @@ fn lets_machine_execute(configuration: u8) -> bool {
     configuration >= 0x80 && matches!(configuration & 7, 2 | 4 | 5 | 6)
 }
 
+/// Returns the configuration byte of an entry, or 0 if there is none.
+fn configuration_of(registers: &SavedRegisters, entry: usize) -> u8 {
+    registers.configurations.get(entry).copied().unwrap_or(0)
+}
+
 /// Writes on the way from one register file to another.
 #[derive(Drop)]
 pub struct Route<'a> {
@@ -73,7 +78,7 @@ impl<'a> Route<'a> {
 
     /// Returns what the entry's configuration byte is to be next: until MML is 1, not yet one that needs it.
     fn wanted(&self, entry: usize) -> u8 {
-        let configuration = self.target.configurations.get(entry).copied().unwrap_or(0);
+        let configuration = configuration_of(&self.target, entry);
         if self.now.read(Csr::Mseccfg) & MML > 0 {
             configuration
         } else {
@@ -83,28 +88,12 @@ impl<'a> Route<'a> {
 
     /// Writes one entry's configuration byte, and the others of its register as they are.
     fn take_byte(&mut self, entry: usize, configuration: u8) -> bool {
-        let register = self.register_of(entry);
-        let first = 4 * usize::from(register);
-        let mut bytes = [0; 8];
-        for place in 0..self.start.hart().bytes_in(register).min(8) {
-            let here = first.saturating_add(place);
-            bytes[place] = if here == entry {
-                configuration
-            } else {
-                self.byte(here)
-            };
-        }
-        self.take(Csr::Cfg(register), u64::from_le_bytes(bytes))
+        self.take_register(self.register_of(entry), Some((entry, configuration)))
     }
 
     /// Returns the configuration byte that an entry has.
     fn byte(&self, entry: usize) -> u8 {
-        self.now
-            .save()
-            .configurations
-            .get(entry)
-            .copied()
-            .unwrap_or(0)
+        configuration_of(&self.now.save(), entry)
     }
 
     /// Returns the number of the configuration register that has the entry's byte.
@@ -117,12 +106,17 @@ impl<'a> Route<'a> {
         }
     }
 
-    /// Writes all wanted bytes of a configuration register.
-    fn take_register(&mut self, register: u8) -> bool {
+    /// Writes a configuration register: this byte of one entry and the others as they are, or else all wanted bytes.
+    fn take_register(&mut self, register: u8, one: Option<(usize, u8)>) -> bool {
         let first = 4 * usize::from(register);
         let mut bytes = [0; 8];
         for place in 0..self.start.hart().bytes_in(register).min(8) {
-            bytes[place] = self.wanted(first.saturating_add(place));
+            let here = first.saturating_add(place);
+            bytes[place] = match one {
+                Some((entry, configuration)) if entry == here => configuration,
+                Some(_) => self.byte(here),
+                None => self.wanted(here),
+            };
         }
         self.take(Csr::Cfg(register), u64::from_le_bytes(bytes))
     }
@@ -157,7 +151,7 @@ impl<'a> Route<'a> {
     /// Writes what is wanted of one configuration register, or else of one entry.
     fn take_configuration(&mut self) -> bool {
         for register in 0..CONFIGURATIONS {
-            if self.take_register(register) {
+            if self.take_register(register, None) {
                 return true;
             }
         }

@@ -31,25 +31,17 @@ impl fmt::Display for Owned {
     }
 }
 
-/// A row for a run of bytes.
-#[derive(Clone, Copy)]
-struct RunRow {
-    run: Run,
-    demand: Demand,
-}
-
-impl fmt::Display for RunRow {
-    fn fmt<W: fmt::Write>(&self, f: &mut fmt::Formatter<W>) -> fmt::Result {
-        let (first, last) = (self.run.first, self.run.last);
-        let machine = Letters(self.demand.rights.machine);
-        let others = Letters(self.demand.rights.others);
-        let locked = yes_no(self.demand.is_locked);
-        let name = Owned(self.run.owner);
-        write!(
-            f,
-            "0x{first:x},0x{last:x},{machine},{others},{locked},{name}\n"
-        )
-    }
+/// Appends a row for a run of bytes.
+fn append_row(text: &mut Vec<u8>, run: Run, demand: Demand) -> Result<(), NoMemory> {
+    let (first, last) = (run.first, run.last);
+    let machine = Letters(demand.rights.machine);
+    let others = Letters(demand.rights.others);
+    let locked = yes_no(demand.is_locked);
+    let name = Owned(run.owner);
+    append_line(
+        text,
+        format_args!("0x{first:x},0x{last:x},{machine},{others},{locked},{name}\n"),
+    )
 }
 
 /// Returns what the registers give the bytes of this owner.
@@ -77,7 +69,7 @@ fn text_of(alloc: Global, file: &RegFile, security: Security) -> Result<Vec<u8>,
         let run = run_around(&registers, at);
         let demand = demand_by(&registers, run.owner);
         if demand != rest {
-            append_line(&mut text, RunRow { run, demand })?;
+            append_row(&mut text, run, demand)?;
         }
         at = run.last + 1;
     }

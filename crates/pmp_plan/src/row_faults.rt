@@ -63,6 +63,7 @@ fn flaw_of(hart: Hart, index: usize, row: &PlanRow<'_>) -> Option<PlanFault>
 
 /// Checks that the rows are those of a plan for the hart: no two have a byte in common, and each begins and ends at
 /// grain boundaries, below the end of its addresses.
+#[tactic(auto, using(std::proofs::lemmas::List::take_all))]
 pub fn check_rows(hart: Hart, rows: &[PlanRow<'_>]) -> Result<(), PlanFault>
     ensures apart { OnOk result (AllPairs AreApart rows.now) }
     ensures fit { OnOk result (All (IsFit hart) rows.now) }

@@ -10,26 +10,9 @@ use crate::writes::WRITES;
 use arrayvec::ArrayVec;
 use pmp_core::{BATCH_EVENTS, Event, RegFile};
 use pmp_text::{FixedLog, NoMemory, RegisterName, Sink, append_line, read_script, write_script};
-use std::fmt;
 
 /// The greatest length of a script in bytes: a head with all registers, and a line for each write.
 const SCRIPT: usize = 16384;
-
-/// The line of an event.
-#[derive(Clone, Copy)]
-struct EventLine(Event);
-
-impl fmt::Display for EventLine {
-    fn fmt<W: fmt::Write>(&self, f: &mut fmt::Formatter<W>) -> fmt::Result {
-        match self.0 {
-            Event::Write(csr, value) => {
-                let name = RegisterName(csr);
-                write!(f, "write {name} 0x{value:x}\n")
-            }
-            Event::Reset => write!(f, "reset\n"),
-        }
-    }
-}
 
 /// Returns the script by itself: the registers, and the writes, with a publication after the last and wherever one is
 /// full.
@@ -40,7 +23,13 @@ fn script_of(start: &RegFile, writes: &[Event]) -> Result<ArrayVec<u8, SCRIPT>, 
         if index > 0 && index % BATCH_EVENTS == 0 {
             text.append(b"publish\n")?;
         }
-        append_line(&mut text, EventLine(*event))?;
+        match *event {
+            Event::Write(csr, value) => {
+                let name = RegisterName(csr);
+                append_line(&mut text, format_args!("write {name} 0x{value:x}\n"))?;
+            }
+            Event::Reset => text.append(b"reset\n")?,
+        }
     }
     text.append(b"publish\n")?;
     Ok(text)

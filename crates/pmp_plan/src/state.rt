@@ -139,10 +139,7 @@ impl State {
         for index in 0..PARTS {
             match self.left_of(index) {
                 Some(left) if left.start >= byte => {
-                    found = Some(match found {
-                        Some(start) if start < left.start => start,
-                        _ => left.start,
-                    });
+                    found = Some(left.start.min(found.unwrap_or(left.start)));
                 }
                 Some(left) if left.end > byte => return None,
                 _ => {}

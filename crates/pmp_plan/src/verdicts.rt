@@ -1,7 +1,6 @@
 //! Whether a register file meets the rows of a plan, row by row, as text.
 
 ghost use Rattle.std.specs.Prelude.{◌≡◌, ◌⊎◌, ◌++◌, Err, IfErr, List, OnErr, OnOk, Some, ℕ};
-ghost use Rattle.pmp_core.specs.RegisterFile.{RegisterFile};
 ghost use Rattle.pmp_text.specs.Outcomes.{no_memory_for_rows};
 ghost use Rattle.pmp_text.specs.RunLines.{owner_text};
 ghost use Rattle.pmp_plan.specs.PlanTexts.{plan_said};
@@ -32,30 +31,21 @@ impl fmt::Display for Owner {
     }
 }
 
-/// The line of a verdict.
-#[derive(Clone, Copy)]
-struct VerdictLine {
-    number: u64,
-    unmet: Option<Unmet>,
-}
-
-impl fmt::Display for VerdictLine {
-    ghost output = { λ line. Some (verdict_line line.number line.unmet) };
-
-    fn fmt<W: fmt::Write>(&self, f: &mut fmt::Formatter<W>) -> fmt::Result {
-        let number = self.number;
-        let Some(unmet) = self.unmet else {
-            return write!(f, "{number},met,,,,,\n");
-        };
-        let (byte, owner) = (unmet.byte, Owner(unmet.owner));
-        let machine = Letters(unmet.rights.machine);
-        let others = Letters(unmet.rights.others);
-        let held = yes_no(unmet.is_held);
-        write!(
-            f,
-            "{number},unmet,0x{byte:x},{owner},{machine},{others},{held}\n"
-        )
-    }
+/// Appends the line of a verdict.
+fn append_verdict<S: Sink>(out: &mut S, number: u64, unmet: Option<Unmet>) -> Result<(), NoMemory>
+    ensures { OnOk result (S.text out.new ≡ S.text out.old ++ verdict_line number unmet) }
+{
+    let Some(unmet) = unmet else {
+        return append_line(out, format_args!("{number},met,,,,,\n"));
+    };
+    let (byte, owner) = (unmet.byte, Owner(unmet.owner));
+    let machine = Letters(unmet.rights.machine);
+    let others = Letters(unmet.rights.others);
+    let held = yes_no(unmet.is_held);
+    append_line(
+        out,
+        format_args!("{number},unmet,0x{byte:x},{owner},{machine},{others},{held}\n"),
+    )
 }
 
 /// Appends a line for each row.
@@ -70,7 +60,7 @@ fn append_rows<S: Sink>(
     for (index, row) in rows.iter().enumerate() {
         let number = index as u64 + 1;
         let unmet = first_unmet(registers, row.first, row.last, row.demand);
-        append_line(out, VerdictLine { number, unmet })?;
+        append_verdict(out, number, unmet)?;
     }
     Ok(())
 }
@@ -98,6 +88,6 @@ pub fn append_verdicts<'a, L: RowList<'a>, S: Sink>(
     read_plan_to(rows, text)?;
     append_rows(out, &file.registers(), rows.rows())?;
     let unmet = rest_verdict(file, rows.rows());
-    append_line(out, VerdictLine { number: 0, unmet })?;
+    append_verdict(out, 0, unmet)?;
     Ok(())
 }

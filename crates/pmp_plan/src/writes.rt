@@ -39,9 +39,8 @@ pub fn before_lockdown(configuration: u8) -> u8 {
 /// Returns the bytes of the given number of entries from this one on, as in a configuration register.
 fn word(entries: &[Chosen], first: usize, count: usize, is_locked_down: bool) -> u64 {
     let mut bytes = [0; 8];
-    for place in 0..bytes.len() {
+    for place in 0..count.min(8) {
         match entries.get(first.saturating_add(place)) {
-            Some(entry) if place >= count => {}
             Some(entry) if is_locked_down => bytes[place] = entry.configuration,
             Some(entry) => bytes[place] = before_lockdown(entry.configuration),
             None => {}

@@ -1,19 +1,13 @@
-use Rattle.std.proofs.Common.{◌∙◌, ◌++◌, ◌+◌, sym, ap, append_assoc, drop, map}
-use Rattle.std.specs.List.{flat_map}
+use Rattle.std.proofs.Common.{◌∙◌, ◌++◌, ap, append_assoc}
 use Rattle.pmp_forms.specs.Cases.{case_said}
-use Rattle.pmp_forms.specs.Junit.{case_text}
-use Rattle.pmp_forms.proofs.Joining.{item_here}
+use Rattle.pmp_forms.specs.Junit.{ending, opening}
+use Rattle.pmp_forms.proofs.Joining.{appended, item_here}
 use Rattle.pmp_forms.proofs.junit.append_cases.Goals as goal
 
 pub loop-case-preserved : goal.loop-case-preserved
 loop-case-preserved c =
-    let cases = c.args.cases.now in
-    let index = c.loop-case.case-index in
-    let case = c.case-item.result in
-    let before = c.loop-case.out.items in
-    let here = item_here cases index case c.loop-case-test.true c.case-item.is in
-    let rest = flat_map case_text (map case_said (drop (index + 1) cases)) in
-    ap (λ items. items ++ rest) c.in_ok-append_case.ensures
-    ∙ append_assoc before (case_text (case_said case)) rest
-    ∙ ap (λ all. before ++ flat_map case_text (map case_said all)) (sym here)
-    ∙ c.loop-case.invariant
+    let case = case_said c.case-item.result in
+    let here = item_here _ _ c.case-item.result c.loop-case-test.true c.case-item.is in
+    appended _ _ (opening case ++ ending case) _ _
+    (c.in_ok-append_ending.ensures ∙ ap (λ items. items ++ ending case) c.in_ok-append_opening.ensures
+    ∙ append_assoc c.loop-case.out.items (opening case) (ending case)) (rw here at c.loop-case.invariant)

@@ -1,8 +1,8 @@
 use Rattle.std.proofs.Common.{rules, ◌≡◌, Ok, Err}
-use Rattle.std.proofs.lemmas.Result.{IfErr-weaker}
+use Rattle.std.proofs.lemmas.Result.{IfErr-weaker, on_ok_weaker}
 use Rattle.pmp_text.specs.Lines.{lines}
 use Rattle.pmp_import.specs.LogTexts.{given_by}
-use Rattle.pmp_import.proofs.LogTexts.{is_script, ok_weaker, stops_first, stops_last}
+use Rattle.pmp_import.proofs.LogTexts.{is_script, stops_first, stops_last}
 use Rattle.pmp_import.proofs.log_text.append_import.Goals as goal
 
 pub returns-in_err-take_lines-clause-err : goal.returns-in_err-take_lines-clause-err
@@ -18,7 +18,7 @@ returns-clause-ok g c =
     let given : given_by c.args.format c.args.options (lines c.args.log.now) ≡ Ok c.in_ok-given.given = search rules in
     let reads = rw (c.new-importer.ensures.given, c.new-importer.ensures.walk) at c.in_ok-take_lines.ensures.ok in
     let begins = rw c.new-importer.ensures.given at c.in_ok-begin.ensures.ok in
-    ok_weaker c.end.result (λ ends.
+    on_ok_weaker c.end.result (λ ends.
     is_script c.args.format c.args.options (lines c.args.log.now) c.in_ok-given.given given c.take_lines.new.self.walk
     (g.S.Sink.text c.begin.new.out) (g.S.Sink.text c.take_lines.new.out) reads (g.S.Sink.text c.args.out.now)
     (g.S.Sink.text c.end.new.out) begins ends)

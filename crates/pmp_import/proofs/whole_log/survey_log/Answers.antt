@@ -1,6 +1,7 @@
 use Rattle.std.proofs.Common.{rules, ◌≡◌, Err, arith}
-use Rattle.pmp_import.proofs.WholeSurveys.{fault_at, fault_at_last, found_all, looking_begins, looks_on, nothing_more}
-use Rattle.pmp_import.proofs.WholeSurveys.{too_many}
+use Rattle.pmp_import.specs.Surveys.{surveyed}
+use Rattle.pmp_import.proofs.KnownLogs.{count_stops, cut_stops}
+use Rattle.pmp_import.proofs.WholeSurveys.{cant_survey, fault_at, fault_at_last, found_all, looking_begins, looks_on}
 use Rattle.pmp_import.proofs.whole_log.survey_log.Goals as goal
 
 pub loop-count-init : goal.loop-count-init
@@ -8,7 +9,7 @@ loop-count-init g c =
     looking_begins c.args.format c.args.hart _ _ _ c.new-held.ensures.items c.new-survey.ensures
 
 pub cut_lines-requires : goal.cut_lines-requires
-cut_lines-requires g c = let short = c.loop-count.invariant.short in omega arith
+cut_lines-requires g c = let short = c.loop-count.invariant.taken.short in omega arith
 
 -- ---- whole lines
 
@@ -46,8 +47,10 @@ returns-in-Ok-Last-clause-ok g c =
 
 pub returns-in-Err-clause-err : goal.returns-in-Err-clause-err
 returns-in-Err-clause-err g c =
-    rw c.stop.ensures (nothing_more c.loop-count.invariant (g.R.Read.remaining c.cut_lines.new.reader)
-    c.in-Err.refusal c.cut_lines.new.held.items c.in-Err.ensures)
+    rw c.stop.ensures (cant_survey (cut_stops c.loop-count.invariant.taken (surveyed c.args.format c.args.hart)
+    (g.R.Read.remaining c.cut_lines.new.reader) c.loop-count.survey.line c.in-Err.refusal c.cut_lines.new.held.items
+    c.in-Err.ensures))
 
 pub returns-clause-err : goal.returns-clause-err
-returns-clause-err g c = rw c.stop-2.ensures (too_many c.loop-count.invariant (omega arith))
+returns-clause-err g c = rw c.stop-2.ensures (cant_survey (count_stops c.loop-count.invariant.taken
+    (surveyed c.args.format c.args.hart) c.loop-count.survey.line (omega arith)))

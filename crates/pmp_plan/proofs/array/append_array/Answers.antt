@@ -1,13 +1,11 @@
-use Rattle.std.proofs.Common.{◌≡◌, ◌∙◌, ◌++◌, ap, append_assoc, arith, List, OnOk, subst, ℕ}
+use Rattle.std.proofs.Common.{◌≡◌, ◌++◌, append_assoc, arith, List, OnOk, subst, ℕ}
 use Rattle.std.proofs.lemmas.List.{take_all}
 use Rattle.pmp_plan.proofs.array.append_array.Goals as goal
 
 -- what stands behind three things that were appended
 joined : (before mid all head body end : List ℕ) → mid ≡ before ++ head → all ≡ mid ++ body
     → all ++ end ≡ before ++ (head ++ (body ++ end))
-joined before mid all head body end first second =
-    ap (λ (l : List ℕ). l ++ end) (second ∙ ap (λ (l : List ℕ). l ++ body) first)
-    ∙ append_assoc (before ++ head) body end ∙ append_assoc before head (body ++ end)
+joined before mid all head body end first second = rw (second, first) (simp append_assoc)
 
 pub returns-clause-text : goal.returns-clause-text
 returns-clause-text g c =

@@ -1,5 +1,4 @@
-use Rattle.std.proofs.Common.{◌≡◌, ◌∙◌, ap, arith, ℕ, Some, List, length, refl, subst}
-use Rattle.std.proofs.lemmas.List.{take_all}
+use Rattle.std.proofs.Common.{◌≡◌, ◌∙◌, ap, ℕ, Some, List, length, refl, subst}
 use Rattle.std.proofs.lemmas.List.Elements.{All-more}
 use Rattle.std.proofs.lemmas.Option.{slice_get_read}
 use Rattle.std.specs.Prelude.{slice_get}
@@ -31,7 +30,3 @@ loop-index-preserved c =
     let row = c.index-rows-index in
     All-more (IsFit c.args.hart) c.args.rows.now c.loop-index.index row.result c.loop-index-test.true
     c.loop-index.invariant (subst (λ (it : PlanRow). IsFit c.args.hart it) row.is c.in_default-flaw_of.ensures)
-
-pub returns-clause-fit : goal.returns-clause-fit
-returns-clause-fit c =
-    rw (take_all c.loop-index.index c.args.rows.now (omega (arith, c.loop-index-test.false))) at c.loop-index.invariant

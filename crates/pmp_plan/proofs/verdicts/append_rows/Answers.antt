@@ -17,6 +17,6 @@ loop-index-preserved g c =
       judged_more c.args.registers.now c.args.rows.now i c.index-rows-index.result unmet text c.loop-index-test.true
           c.index-rows-index.is judged
           (row_verdict c.args.registers.now c.index-rows-index.result unmet c.first_unmet-unmet.ensures),
-      c.in_ok-append_line.ensures.ok ∙ ap (λ (l : List ℕ). l ++ line) is
+      c.in_ok-append_verdict.ensures ∙ ap (λ (l : List ℕ). l ++ line) is
           ∙ append_assoc (g.S.Sink.text c.args.out.now) text line,
     )

@@ -1,9 +1,0 @@
-use Rattle.std.proofs.Common.{◌≡◌, ◌++◌, drop}
-use Rattle.std.specs.List.{flat_map}
-use Rattle.pmp_forms.specs.Markdown.{cell_byte}
-use Rattle.pmp_forms.proofs.markdown.append_escaped.Given as goal
-
--- the bytes so far, and those of the rest, are all
-abbrev pub invariant-loop-byte : goal.invariant-loop-byte
-invariant-loop-byte l =
-    l.out.items ++ flat_map cell_byte (drop l.byte-index l.text) ≡ l.fn.out.items ++ flat_map cell_byte l.text
