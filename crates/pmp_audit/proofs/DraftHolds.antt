@@ -40,12 +40,10 @@ use Rattle.pmp_audit.proofs.AnsweredBytes.{never_both, others_alike}
 use Rattle.pmp_audit.proofs.DraftFields.{is_last, modes_like, never_said, no_fault, row}
 use Rattle.pmp_audit.proofs.DraftRows.{AreRows, Entry, IsRead, both_rows, meaning, no_rows, one_row, rows_in}
 use Rattle.pmp_audit.proofs.PlainRows.{ArePlain, Plain}
+use Rattle.pmp_audit.proofs.PolicySteps.{alone}
 use Rattle.pmp_audit.proofs.ReadNumbers.{address_plain, decimal_plain}
 
 -- ---- the last state
-
-abbrev alone : Event → List Event
-alone event = event ∷ []
 
 joined_alone : (events : List Event) → joined (map alone events) ≡ events
 joined_alone [] = refl

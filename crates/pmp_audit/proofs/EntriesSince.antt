@@ -1,13 +1,12 @@
 -- Since when an entry is frozen, and held, batch by batch.
-use Rattle.std.proofs.Common.{◌≡◌, ℕ, ◌+◌, ◌-◌, ◌<◌, ◌≤◌, Bool, true, false, ◌&&◌, List, [], ◌∷◌, ◌++◌, length}
+use Rattle.std.proofs.Common.{◌≡◌, ℕ, zero, suc, ◌+◌, ◌-◌, ◌<◌, ◌≤◌, Bool, true, false, ◌&&◌, List, [], ◌∷◌, ◌++◌, length}
 use Rattle.std.proofs.Common.{fold, take, drop, Option, None, Some, get_or, replicate, refl, sym, ap, subst, ◌∙◌}
 use Rattle.std.proofs.Common.{inl, inr, arith}
 use Rattle.std.specs.List.{list_all}
 use Rattle.std.proofs.lemmas.Bool.{and_parts, cases_lt, false≢true}
 use Rattle.std.proofs.lemmas.List.{take-append-le, drop-append-le, take-append-drop, take-take, drop-take}
 use Rattle.std.proofs.lemmas.List.{take_all, drop_all}
-use Rattle.std.proofs.lemmas.List.{append-nil, length-append, length-take-le, take_more, get_or-replicate, get_or_past}
-use Rattle.std.proofs.lemmas.List.{length-replicate}
+use Rattle.std.proofs.lemmas.List.{append-nil, length-append, length-take-le, take_more}
 use Rattle.std.proofs.lemmas.List.Sums.{fold-append}
 use Rattle.std.proofs.lemmas.List.Folds.{list_all-append}
 use Rattle.pmp_core.specs.declared.event.Event.{Event}
@@ -64,9 +63,6 @@ Lasts is_so = (file : RegisterFile) (i : ℕ) (events : List Event) → is_so fi
 
 pub frozen_lasts : Lasts is_frozen
 frozen_lasts file i events frozen writes = (lock_law file i events frozen writes).frozen
-
-pub held_lasts : Lasts is_held
-held_lasts = held_still
 
 -- from the first k batches to so many of them there are writes alone
 writes_between : (batches : List (List Event)) (k done : ℕ) → k ≤ done
@@ -196,13 +192,9 @@ module _ (is_so : RegisterFile → ℕ → Bool) (start : RegisterFile) (i : ℕ
   since_first since is = rw is (none_yet (is_so start i) refl)
 
 pub nothing_at : (count i : ℕ) → get_or (replicate {A = Since} count no_since) i no_since ≡ no_since
-nothing_at count i = elim (cases_lt i count) [
-  | inl inside ↦ get_or-replicate count i no_since no_since inside
-  | inr past ↦
-      let nothing : List Since = replicate count no_since in
-      let few : length nothing ≤ i = omega (arith, length-replicate {A = Since} count no_since) in
-      get_or_past nothing i no_since few
-]
+nothing_at zero i = refl
+nothing_at (suc count) zero = refl
+nothing_at (suc count) (suc i) = nothing_at count i
 
 -- ---- the law
 
@@ -218,7 +210,7 @@ module _ (protects : ProtectedLaw) (start : RegisterFile) (legal : IsLegal start
       (lock_law (file_done k) i between since.0.after (writes_between batches k done within since.0.writes))
 
   does_protect : (since : Option ℕ) → IsLeast (IsFrom is_held start batches i) since → Protects start batches i since
-  does_protect None never = not_so is_held held_lasts start batches i (is_held (file_behind start batches) i) refl never
+  does_protect None never = not_so is_held held_still start batches i (is_held (file_behind start batches) i) refl never
   does_protect (Some k) since = λ done within.
       let between = joined (drop k (take done batches)) in
       subst (λ later. StaysProtected (file_done k) later i) (sym (file_from start k done batches within))

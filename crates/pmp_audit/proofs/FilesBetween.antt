@@ -1,9 +1,8 @@
 -- The register file between the events of a script.
-use Rattle.std.proofs.Common.{◌≡◌, ℕ, ◌+◌, ◌-◌, ◌≤◌, List, fold, length, min, take, drop, sym, ap, ◌∙◌, arith, inl, inr}
+use Rattle.std.proofs.Common.{◌≡◌, ℕ, ◌+◌, ◌-◌, ◌≤◌, List, fold, length, min, take, drop, sym, ap, ◌∙◌, arith}
 use Rattle.std.proofs.Math.Seq.{take-add}
-use Rattle.std.proofs.lemmas.Bool.{cases_lt}
 use Rattle.std.proofs.lemmas.List.Sums.{fold-append}
-use Rattle.std.proofs.lemmas.List.{take_all}
+use Rattle.std.proofs.lemmas.List.{take_min}
 use Rattle.pmp_core.specs.declared.event.Event.{Event}
 use Rattle.pmp_core.specs.RegisterFile.{RegisterFile}
 use Rattle.pmp_core.specs.RegisterWrite.{step}
@@ -18,14 +17,9 @@ file_further start all done end within =
 
 -- no more events than there are
 pub first_of : (all : List Event) (n : ℕ) → take (min (length all) n) all ≡ take n all
-first_of all n = elim (cases_lt (length all) n) [
-  | inl beyond ↦
-      let most : min (length all) n ≡ length all = omega arith in
-      ap (λ (m : ℕ). take m all) most ∙ take_all (length all) all (omega arith) ∙ sym (take_all n all (omega arith))
-  | inr within ↦
-      let most : min (length all) n ≡ n = omega arith in
-      ap (λ (m : ℕ). take m all) most
-]
+first_of all n =
+    let same : min (length all) n ≡ min n (length all) = omega arith in
+    ap (λ (m : ℕ). take m all) same ∙ take_min n all
 
 -- events that are run behind the first ones, from a file that is known
 pub run_further : (start : RegisterFile) (all given : List Event) (file next : RegisterFile) (done end : ℕ)

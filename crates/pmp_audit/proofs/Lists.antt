@@ -1,6 +1,17 @@
 -- Lists side by side.
-use Rattle.std.proofs.Common.{◌≡◌, List, [], ◌∷◌, ◌++◌, ap, length, refl, suc}
+use Rattle.std.proofs.Common.{◌≡◌, List, [], ◌∷◌, ◌++◌, map, refl}
 use Rattle.std.specs.List.{AllZip}
+
+-- where a function has one value for each item, there is one list with its values
+pub one_by_map : {A B : Type 0} (f : A → B) → ((x y : A) → f x ≡ f y → x ≡ y) → (xs ys : List A) → map f xs ≡ map f ys
+    → xs ≡ ys
+one_by_map f one [] [] same = refl
+one_by_map f one [] (y ∷ ys) same = absurd cc
+one_by_map f one (x ∷ xs) [] same = absurd cc
+one_by_map f one (x ∷ xs) (y ∷ ys) same =
+    let first = one x y cc in
+    let rest = one_by_map f one xs ys cc in
+    cc
 
 module _ {A B : Type 0} (R : A → B → Type 0) where
   -- where R has one answer, there is one list of answers
@@ -15,12 +26,6 @@ module _ {A B : Type 0} (R : A → B → Type 0) where
       let first = one x y z p.0 q.0 in
       let rest = one_list one xs ys zs p.1 q.1 in
       cc
-
-  pub same_length : (xs : List A) (ys : List B) → AllZip R xs ys → length xs ≡ length ys
-  same_length [] [] are = refl
-  same_length [] (y ∷ ys) are = absurd are
-  same_length (x ∷ xs) [] are = absurd are
-  same_length (x ∷ xs) (y ∷ ys) are = ap suc (same_length xs ys are.1)
 
   pub one_more_beside : (xs : List A) (ys : List B) (x : A) (y : B) → AllZip R xs ys → R x y
       → AllZip R (xs ++ x ∷ []) (ys ++ y ∷ [])

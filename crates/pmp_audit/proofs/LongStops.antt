@@ -2,7 +2,7 @@
 use Rattle.std.proofs.Common.{◌≡◌, ◌⊎◌, ℕ, ◌-◌, true, false, List, [], ◌++◌}
 use Rattle.std.proofs.Common.{Option, Some, None, Ok, Err, refl, sym, ap, subst, ◌∙◌, inl, inr}
 use Rattle.std.proofs.Common.{append_assoc, append-nil, arith, length}
-use Rattle.std.specs.Io.KnownBytes.{Appends, Keeps}
+use Rattle.std.specs.Io.KnownBytes.{Appends}
 use Rattle.std.proofs.KnownBytes.{Appends-trans}
 use Rattle.pmp_text.specs.declared.trace.TraceFault.{TraceFault}
 use Rattle.pmp_text.specs.declared.refusal.Refusal.TheVariants.{BadHeader}
@@ -38,41 +38,24 @@ pub record IsPieceOf (moments : KnownMoments) (place : Place) (records : Records
   pub fronts : (front behind : Records) → records_of piece ≡ front ++ behind → piece_fault moments place front ≡ None
       → (others : Records) × (tail ≡ front ++ others)
 
-appends_kept : (old mid new : Option (List ℕ)) (text : List ℕ) → Appends old mid text → Keeps mid new
-    → Appends old new text
-appends_kept None mid new text written kept = tt
-appends_kept (Some xs) None new text written kept = absurd written
-appends_kept (Some xs) (Some ys) None text written kept = absurd kept
-appends_kept (Some xs) (Some ys) (Some zs) text written kept = kept ∙ written
-
 module _ (script : List ℕ) {contents : ScriptContents} (means : script_meaning script ≡ Ok contents) (limit : ℕ)
     {first : ℕ} {records : Records} {old : Standing} {text : List ℕ}
-    (stands : IsReported contents records (start first) old text) (out_old out_mid out_new : Option (List ℕ))
+    (stands : IsReported contents records (start first) old text) (out_old out_mid : Option (List ℕ))
     (written : Appends out_old out_mid text) where
   abbrev moments : KnownMoments
   moments = moments_in contents
 
   -- nothing more was written
   module _ (trace : List ℕ) (behind : Records) (are : records_of trace ≡ records ++ behind) where
-    pub wrote_front : Keeps out_mid out_new → WroteFront limit script first trace out_old out_new
-    wrote_front kept = (
-      text,
-      front_of means stands trace behind are,
-      appends_kept out_old out_mid out_new text written kept,
-    )
+    pub wrote_front : WroteFront limit script first trace out_old out_mid
+    wrote_front = (text, front_of means stands trace behind are, written)
 
-    pub no_input : Keeps out_mid out_new → StopsLong limit script first trace out_old out_new (Trace no_input_for_rows)
-    no_input kept = (
-      record { contents = contents; script_means = means; why = inr (inl refl) },
-      wrote_front kept,
-    )
+    pub no_input : StopsLong limit script first trace out_old out_mid (Trace no_input_for_rows)
+    no_input = (record { contents = contents; script_means = means; why = inr (inl refl) }, wrote_front)
 
-    pub too_long : IsTooLong limit moments first trace → Keeps out_mid out_new
-        → StopsLong limit script first trace out_old out_new (Trace too_long_for_rows)
-    too_long long kept = (
-      record { contents = contents; script_means = means; why = inr (inr (refl, long)) },
-      wrote_front kept,
-    )
+    pub too_long : IsTooLong limit moments first trace
+        → StopsLong limit script first trace out_old out_mid (Trace too_long_for_rows)
+    too_long long = (record { contents = contents; script_means = means; why = inr (inr (refl, long)) }, wrote_front)
 
   -- ---- a piece that isn't written
 
@@ -107,18 +90,19 @@ module _ (script : List ℕ) {contents : ScriptContents} (means : script_meaning
     why fault (inr (inl failed)) = inr (inl failed)
     why fault (inr (inr (long, many))) = inr (inr (long, inr (inl (too_many many))))
 
-    pub piece_fails : (fault : AuditFault) → PieceFails contents (records_of piece) old fault → Keeps out_mid out_new
-        → StopsLong limit script first trace out_old out_new fault
-    piece_fails (Trace fault) fails kept = (
+    pub piece_fails : (fault : AuditFault) → PieceFails contents (records_of piece) old fault
+        → StopsLong limit script first trace out_old out_mid fault
+    piece_fails (Trace fault) fails = (
       record { contents = contents; script_means = means; why = why fault fails },
-      wrote_front trace here.tail here.are kept,
+      wrote_front trace here.tail here.are,
     )
-    piece_fails Memory fails kept = inr (wrote_front trace here.tail here.are kept)
-    piece_fails fault fails kept = absurd fails
+    piece_fails Memory fails = inr (wrote_front trace here.tail here.are)
+    piece_fails fault fails = absurd fails
 
-    pub cut_short : (new : Standing) (more : List ℕ) → IsReported contents (records_of piece) old new more
-        → AppendsBeginning out_mid out_new more → StopsLong limit script first trace out_old out_new Output
-    cut_short new more reported (front, rest, split, wrote) =
+    pub cut_short : (out_new : Option (List ℕ)) (new : Standing) (more : List ℕ)
+        → IsReported contents (records_of piece) old new more → AppendsBeginning out_mid out_new more
+        → StopsLong limit script first trace out_old out_new Output
+    cut_short out_new new more reported (front, rest, split, wrote) =
         let (behind, tail_is) =
         here.fronts (records_of piece) [] (sym (append-nil (records_of piece))) reported.report.fine in
         let are : records_of trace ≡ (records ++ records_of piece) ++ behind =

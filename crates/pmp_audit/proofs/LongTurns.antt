@@ -172,8 +172,7 @@ module _ {script : ScriptContents} {first count : ℕ} {in_old in_mid : Option (
       fails fault why = λ text means. (
         has.trace,
         has.known,
-        piece_fails text means limit going.stands out_old out_mid out_mid going.written piece has.trace has.here fault
-            why (Keeps-refl out_mid),
+        piece_fails text means limit going.stands out_old out_mid going.written piece has.trace has.here fault why,
       )
 
       pub stops_short : (new : Standing) (more : List ℕ) → IsReported script (records_of piece) old new more
@@ -181,7 +180,7 @@ module _ {script : ScriptContents} {first count : ℕ} {in_old in_mid : Option (
       stops_short new more reported out_new wrote = λ text means. (
         has.trace,
         has.known,
-        cut_short text means limit going.stands out_old out_mid out_new going.written piece has.trace has.here new more
+        cut_short text means limit going.stands out_old out_mid going.written piece has.trace has.here out_new new more
             reported wrote,
       )
 
@@ -192,22 +191,20 @@ module _ {script : ScriptContents} {first count : ℕ} {in_old in_mid : Option (
     cut_stops left kinds.TooLong uncut = λ text means. (
       trace_taken uncut.taken uncut.consumed,
       taken_known uncut.taken uncut.consumed,
-      too_long text means limit going.stands out_old out_mid out_mid going.written _ _
+      too_long text means limit going.stands out_old out_mid going.written _ _
           (going.apart (uncut.taken ++ unwrap_or in_new []))
-          (inl (long_in_all uncut.taken uncut.consumed (limit - 1) uncut.line)) (Keeps-refl out_mid),
+          (inl (long_in_all uncut.taken uncut.consumed (limit - 1) uncut.line)),
     )
     cut_stops left kinds.Input uncut = λ text means. (
       trace_held,
       held_known,
-      no_input text means limit going.stands out_old out_mid out_mid going.written _ _
-          (going.apart (unwrap_or in_mid []))
-          (Keeps-refl out_mid),
+      no_input text means limit going.stands out_old out_mid going.written _ _ (going.apart (unwrap_or in_mid [])),
     )
     cut_stops left kinds.Memory uncut = λ text means. (
       trace_held,
       held_known,
-      inr (wrote_front text means limit going.stands out_old out_mid out_mid going.written _ _
-          (going.apart (unwrap_or in_mid [])) (Keeps-refl out_mid)),
+      inr (wrote_front text means limit going.stands out_old out_mid going.written _ _
+          (going.apart (unwrap_or in_mid []))),
     )
     cut_stops left refusal uncut = absurd uncut
 
@@ -215,10 +212,9 @@ module _ {script : ScriptContents} {first count : ℕ} {in_old in_mid : Option (
     no_turn turns = λ text means. (
       trace_held,
       held_known,
-      too_long text means limit going.stands out_old out_mid out_mid going.written _ _
-          (going.apart (unwrap_or in_mid []))
+      too_long text means limit going.stands out_old out_mid going.written _ _ (going.apart (unwrap_or in_mid []))
           (inr (inr (let many = going.many in
-          let size = length-append going.done (held ++ unwrap_or in_mid []) in omega arith))) (Keeps-refl out_mid),
+          let size = length-append going.done (held ++ unwrap_or in_mid []) in omega arith))),
     )
 
     -- ---- the last piece
@@ -247,8 +243,7 @@ module _ {script : ScriptContents} {first count : ℕ} {in_old in_mid : Option (
         all_known piece cut,
         record {
           text = going.text ++ more;
-          says = says_all text means limit all_read out_old out_new out_new all_written _ (all_are piece cut) summary
-              begun is;
+          says = says_all text means limit all_read out_old out_new all_written _ (all_are piece cut) summary begun is;
           written = all_written;
         },
       )
@@ -265,9 +260,9 @@ module _ {script : ScriptContents} {first count : ℕ} {in_old in_mid : Option (
               record {
                 contents = script;
                 script_means = means;
-                why = inl (no_header text means limit all_read out_old out_new out_new all_written _ are begun);
+                why = inl (no_header text means limit all_read out_old out_new all_written _ are begun);
               },
-              wrote_front text means limit all_read out_old out_new out_new all_written _ []
-                  (are ∙ sym (append-nil (going.records ++ records_of piece))) (Keeps-refl out_new),
+              wrote_front text means limit all_read out_old out_new all_written _ []
+                  (are ∙ sym (append-nil (going.records ++ records_of piece))),
             ),
           )

@@ -1,5 +1,5 @@
 -- A row of a policy has one list of breaches.
-use Rattle.std.proofs.Common.{◌≡◌, ◌∙◌, ℕ, zero, suc, ◌+◌, List, [], ◌∷◌, ◌++◌, ap, arith, filter_map, map, refl, sym}
+use Rattle.std.proofs.Common.{◌≡◌, ◌∙◌, ℕ, zero, suc, ◌+◌, List, [], ◌∷◌, ◌++◌, ap, arith, filter_map, map, sym}
 use Rattle.pmp_core.specs.RegisterFile.{RegisterFile}
 use Rattle.pmp_map.specs.declared.run.Run.{Run}
 use Rattle.pmp_map.proofs.OneList.{one_list_of_runs}

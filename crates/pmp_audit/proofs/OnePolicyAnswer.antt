@@ -1,6 +1,7 @@
 -- A script and a policy have one answer.
-use Rattle.std.proofs.Common.{◌≡◌, ℕ, ◌+◌, ◌<◌, ◌≤◌, List, [], ◌∷◌, map, Option, Some, None, refl, sym, ap, subst, ◌∙◌}
-use Rattle.std.proofs.Common.{Bool, inl, inr, arith}
+use mathlib.Core.HLevel.{is_prop→PathP}
+use Rattle.std.proofs.Common.{◌≡◌, ℕ, ◌+◌, ◌<◌, ◌≤◌, map, Option, Some, None, refl, sym, ap, subst, ◌∙◌}
+use Rattle.std.proofs.Common.{inl, inr, arith}
 use Rattle.std.proofs.Math.Bridge.{le_prop}
 use Rattle.std.proofs.lemmas.Bool.{cases_lt, false≢true}
 use Rattle.std.proofs.lemmas.Option.{none-some}
@@ -18,8 +19,6 @@ use Rattle.pmp_text.specs.declared.moments.Coming.TheVariants as coming
 use Rattle.pmp_text.specs.declared.policy.Demand.{Demand}
 use Rattle.pmp_text.specs.declared.policy.Demand.TheVariants.{Never, Always, Held}
 use Rattle.pmp_text.specs.declared.policy.PolicyRow.{PolicyRow}
-use Rattle.pmp_text.specs.declared.policy.Kinds.{Kinds}
-use Rattle.pmp_text.specs.declared.policy.Modes.{Modes}
 use Rattle.pmp_text.specs.Labels.{policy_labels}
 use Rattle.pmp_text.specs.Policies.{policy_fields}
 use Rattle.pmp_audit.specs.Laws.{OnePolicyAnswerLaw}
@@ -29,16 +28,13 @@ use Rattle.pmp_audit.specs.PolicyCheck.{IsBreachOf, IsVerdict, IsVerdictBy, IsVe
 use Rattle.pmp_audit.specs.PolicyTexts.{policy_summary, told_text}
 use Rattle.pmp_audit.specs.PolicyBreaches.{IsTold}
 use Rattle.pmp_audit.proofs.OneListOfBreaches.{told_alike}
-use Rattle.pmp_audit.proofs.Lists.{one_list}
+use Rattle.pmp_audit.proofs.Lists.{one_by_map, one_list}
 use Rattle.pmp_audit.proofs.LastingMoments.{one_moments}
 
 -- ---- one run
 
 same_run : (one other : Run) → one.first ≡ other.first → one.last ≡ other.last → one.owner ≡ other.owner → one ≡ other
-same_run one other first last owner =
-    ap (λ (n : ℕ). record { first = n; last = one.last; owner = one.owner }) first
-    ∙ ap (λ (n : ℕ). record { first = other.first; last = n; owner = one.owner }) last
-    ∙ ap (λ (o : Option ℕ). record { first = other.first; last = other.last; owner = o }) owner
+same_run one other first last owner = λ i. record { first = first i; last = last i; owner = owner i }
 
 module _ (file : RegisterFile) (IsSo : ℕ → Type 0) (row : PolicyRow) where
   abbrev First : Run → Type 0
@@ -85,9 +81,7 @@ module _ (file : RegisterFile) (IsSo : ℕ → Type 0) (row : PolicyRow) where
 -- ---- one verdict
 
 same_breach : (one other : Breach) → one.done ≡ other.done → one.run ≡ other.run → one ≡ other
-same_breach one other done run =
-    ap (λ (n : ℕ). record { done = n; run = one.run }) done
-    ∙ ap (λ (r : Run). record { done = other.done; run = r }) run
+same_breach one other done run = λ i. record { done = done i; run = run i }
 
 module _ (state : ℕ → RegisterFile) (row : PolicyRow) (from to : ℕ) where
   none_there : (done : ℕ) (run : Run) → IsFirstIn (state done) row None → IsFirstIn (state done) row (Some run) → ⊥
@@ -168,50 +162,21 @@ one_told coming.Waived IsSo once one other is too = is ∙ sym too
 
 -- ---- a row is what a policy says of it
 
-row_of : (from to : ℕ) (modes : Modes) (kinds : Kinds) (first last : ℕ) (demand : Demand) (coming : Coming)
-    (is_bare : Bool) → from ≤ to → first ≤ last → last < ADDRESS_LIMIT → PolicyRow
-row_of from to modes kinds first last demand coming is_bare forward ordered inside = record {
-  from = from;
-  to = to;
-  modes = modes;
-  kinds = kinds;
-  first = first;
-  last = last;
-  demand = demand;
-  coming = coming;
-  is_bare = is_bare;
-  forward = forward;
-  ordered = ordered;
-  inside = inside;
-}
-
 same_row : (one other : PolicyRow) → policy_fields one ≡ policy_fields other → one ≡ other
-unfolding row_of
-same_row one other same =
-    let From : ℕ → ℕ → ℕ → ℕ → Type 0 = λ f t a b. (forward : f ≤ t) (ordered : a ≤ b) (inside : b < ADDRESS_LIMIT)
-    → one ≡ row_of f t one.modes one.kinds a b one.demand one.coming one.is_bare forward ordered inside in
-    let here = row_of one.from one.to one.modes one.kinds one.first one.last one.demand one.coming one.is_bare in
-    let own : From one.from one.to one.first one.last = λ forward ordered inside.
-    ap (λ f. here f one.ordered one.inside) (le_prop one.forward forward)
-    ∙ ap (λ o. here forward o one.inside) (le_prop one.ordered ordered)
-    ∙ ap (λ i. here forward ordered i) (le_prop one.inside inside) in
-    let moved = subst (λ (n : ℕ). From n one.to one.first one.last) (ap (λ f. f.from) same) own in
-    let moved_to = subst (λ (n : ℕ). From other.from n one.first one.last) (ap (λ f. f.to) same) moved in
-    let moved_first = subst (λ (n : ℕ). From other.from other.to n one.last) (ap (λ f. f.first) same) moved_to in
-    let moved_last = subst (λ (n : ℕ). From other.from other.to other.first n) (ap (λ f. f.last) same) moved_first in
-    let there : Modes → Kinds → Demand → Coming → Bool → PolicyRow = λ m k d c b.
-    row_of other.from other.to m k other.first other.last d c b other.forward other.ordered other.inside in
-    moved_last other.forward other.ordered other.inside
-    ∙ (λ i. there (same i).modes (same i).kinds (same i).demand (same i).coming (same i).is_bare)
-
-same_rows : (one other : List PolicyRow) → map policy_fields one ≡ map policy_fields other → one ≡ other
-same_rows [] [] same = refl
-same_rows [] (row ∷ other) same = absurd cc
-same_rows (row ∷ one) [] same = absurd cc
-same_rows (row ∷ one) (another ∷ other) same =
-    let first = same_row row another cc in
-    let rest = same_rows one other cc in
-    cc
+same_row one other same = λ i. record {
+  from = (same i).from;
+  to = (same i).to;
+  modes = (same i).modes;
+  kinds = (same i).kinds;
+  first = (same i).first;
+  last = (same i).last;
+  demand = (same i).demand;
+  coming = (same i).coming;
+  is_bare = (same i).is_bare;
+  forward = is_prop→PathP (λ j. (same j).from ≤ (same j).to) (λ j. le_prop) one.forward other.forward i;
+  ordered = is_prop→PathP (λ j. (same j).first ≤ (same j).last) (λ j. le_prop) one.ordered other.ordered i;
+  inside = is_prop→PathP (λ j. (same j).last < ADDRESS_LIMIT) (λ j. le_prop) one.inside other.inside i;
+}
 
 -- ---- the law
 
@@ -222,7 +187,7 @@ one_policy_answer breaches pace script policy one other text another said too =
     one_moments too.contents said.moments too.moments (rw contents at said.moments_are) too.moments_are in
     let fields : map policy_fields said.rows ≡ map policy_fields too.rows =
     cc (moments, said.policy_means, too.policy_means) in
-    let rows = same_rows said.rows too.rows fields in
+    let rows = one_by_map policy_fields same_row said.rows too.rows fields in
     let judged = rw (contents, rows) at said.judged in
     let verdicts = one_list (IsVerdict pace too.contents)
     (λ row. one_told row.coming (IsBreachOf pace too.contents row)

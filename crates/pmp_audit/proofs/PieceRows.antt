@@ -61,6 +61,9 @@ has_header false records front fields behind header e =
 
 -- ---- before the first row
 
+none_more : (number : ℕ) → number ≡ number + 0
+none_more number = omega arith
+
 or_none : (bare : Option ℕ) → bare ≡ option_or bare None
 or_none None = refl
 or_none (Some number) = refl
@@ -68,15 +71,10 @@ or_none (Some number) = refl
 at_start : (moments : KnownMoments) (begun : Bool) (last : Option ℕ) (next : ℕ) (bare : Option ℕ)
     → record { begun = begun; last = last; next = next; bare = bare }
     ≡ place_behind moments (record { begun = begun; last = last; next = next; bare = bare }) []
-at_start moments begun last next bare = by begun
-  where
-    number : next ≡ next + 0
-    number = omega arith
-
-    by : (begun : Bool) → record { begun = begun; last = last; next = next; bare = bare }
-        ≡ place_behind moments (record { begun = begun; last = last; next = next; bare = bare }) []
-    by true = λ i. record { begun = true; last = last; next = number i; bare = or_none bare i }
-    by false = λ i. record { begun = false; last = last; next = number i; bare = or_none bare i }
+at_start moments true last next bare =
+    λ i. record { begun = true; last = last; next = none_more next i; bare = or_none bare i }
+at_start moments false last next bare =
+    λ i. record { begun = false; last = last; next = none_more next i; bare = or_none bare i }
 
 no_fault : (moments : KnownMoments) (last : Option ℕ) (next : ℕ) (begun : Bool)
     → first_fault_at moments begun last next [] ≡ None
@@ -91,8 +89,7 @@ pub none_so_far : (script : ScriptContents) (old new : Standing) → new.place �
     → IsReported script [] old new []
 unfolding report_text_from
 none_so_far script old new place faults =
-    let at = old.place in
-    let number : old.faults ≡ old.faults + 0 = omega arith in record {
+    let at = old.place in record {
       report = record {
         fine = no_fault (moments_in script) at.last at.next at.begun;
         rows = [];
@@ -102,7 +99,7 @@ none_so_far script old new place faults =
         report = refl;
       };
       place = place ∙ at_start (moments_in script) at.begun at.last at.next at.bare;
-      counted = faults ∙ number;
+      counted = faults ∙ none_more old.faults;
     }
 
 pub none_reported : (script : ScriptContents) (standing : Standing) (left : RowsLeft) → left.place ≡ standing.place

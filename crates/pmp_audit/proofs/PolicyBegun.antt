@@ -1,5 +1,5 @@
 -- How the breaches of a policy's row grow from state to state.
-use Rattle.std.proofs.Common.{◌≡◌, ◌∙◌, ◌<◌, ℕ, suc, ◌+◌, List, [], ◌∷◌, ◌++◌, Option, None, Some, append_assoc, arith, drop}
+use Rattle.std.proofs.Common.{◌≡◌, ◌∙◌, ◌<◌, ℕ, suc, ◌+◌, List, [], ◌∷◌, ◌++◌, Option, None, Some, append_assoc, drop}
 use Rattle.std.proofs.Common.{filter_map, get_or, length, map, refl}
 use Rattle.std.specs.List.{flat_map}
 use Rattle.std.proofs.lemmas.List.{drop_more}
@@ -40,10 +40,6 @@ pub rows_more : {X Y : Type 0} (g : X → Y) (line : Y → List ℕ) (xs : List 
 rows_more g line xs i d front all inside so_far =
     append_assoc front (line (g (get_or xs i d))) (flat_map line (map g (drop (i + 1) xs)))
     ∙ (rw (drop_more xs i d inside) at so_far)
-
-pub no_items : {X : Type 0} (xs : List X) → length xs ≡ 0 → xs ≡ []
-no_items [] none = refl
-no_items (x ∷ xs) none = absurd (omega (arith, none))
 
 -- of `held`, if no byte is open, locks are looked at
 pub loose_here : (demand : Demand) (found : List Breach) (last : RegisterFile) (row : PolicyRow) (to : ℕ)

@@ -12,7 +12,7 @@ use Rattle.pmp_audit.specs.declared.policy_check.steps.Pace.{Pace}
 use Rattle.pmp_audit.specs.declared.policy_check.steps.Pace.TheVariants.{Publications, Events}
 use Rattle.pmp_audit.specs.PolicyCheck.{step_count, steps_of}
 
-abbrev alone : Event → List Event
+abbrev pub alone : Event → List Event
 alone event = event ∷ []
 
 event_alone : (events : List Event) (i : ℕ) → i < length events

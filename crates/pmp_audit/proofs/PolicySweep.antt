@@ -1,11 +1,11 @@
 -- The verdict on a row, state by state.
-use Rattle.std.proofs.Common.{◌≡◌, ◌≢◌, ℕ, ◌+◌, ◌<◌, ◌≤◌, List, [], ◌∷◌, Option, None, Some, drop, get_or, set, take}
-use Rattle.std.proofs.Common.{◌-◌, ◌∙◌, ap, subst, suc, sym, zero, arith, inl, inr, refl}
+use Rattle.std.proofs.Common.{◌≡◌, ◌≢◌, ℕ, ◌+◌, ◌<◌, ◌≤◌, List, Option, None, Some, drop, get_or, set, take}
+use Rattle.std.proofs.Common.{◌-◌, ◌∙◌, ap, subst, suc, sym, arith, inl, inr, refl}
 use Rattle.std.specs.Option.{option_map}
 use Rattle.std.specs.Prelude.{All, is_some, false, length}
 use Rattle.std.proofs.lemmas.Bool.{cases_lt, false≢true}
 use Rattle.std.proofs.lemmas.List.{drop-set-lt, drop_more, take_more_set}
-use Rattle.std.proofs.lemmas.List.Elements.{All-append}
+use Rattle.std.proofs.lemmas.List.Elements.{All-push}
 use Rattle.pmp_core.specs.Decision.{IsByteOf}
 use Rattle.pmp_core.specs.Moved.{AreAlikeBeside, IsMoved}
 use Rattle.pmp_core.specs.RegisterFile.{RegisterFile}
@@ -52,7 +52,7 @@ none_before state row from done before here k after below = elim (cases_lt k don
       subst (λ (n : ℕ). IsFirstIn (state n) row None) same here
 ]
 
-module _ (states : ℕ → RegisterFile) (row : PolicyRow) (from to : ℕ) where
+module _ {states : ℕ → RegisterFile} {row : PolicyRow} {from to : ℕ} where
   -- ---- a breach
 
   verdict_by : (demand : Demand) (breach : Breach) → IsFirstBreach states row from to breach
@@ -65,7 +65,7 @@ module _ (states : ℕ → RegisterFile) (row : PolicyRow) (from to : ℕ) where
       → IsVerdictBefore states row from to done (Some breach)
   stays_broken done breach is = record { asking = λ _. is; asked = λ _. verdict_by row.demand breach is }
 
-  module _ (done : ℕ) (after : from ≤ done) (until : done ≤ to)
+  module _ {done : ℕ} (after : from ≤ done) (until : done ≤ to)
       (before : IsVerdictBefore states row from to done None) where
     pub breaks : (breach : Breach) → breach.done ≡ done → IsFirstIn (states done) row (Some breach.run)
         → IsVerdictBefore states row from to (done + 1) (Some breach)
@@ -135,20 +135,23 @@ none_by_test (Some breach) some = absurd (false≢true (sym some))
 
 -- ---- a row
 
-module _ (states : ℕ → RegisterFile) (state : State) (row : PolicyRow) (from to : ℕ) (is : IsStateOf states state)
+module _ {states : ℕ → RegisterFile} {state : State} {row : PolicyRow} {from to : ℕ} (is : IsStateOf states state)
     (before : IsVerdictBefore states row from to state.done None) (until : state.done ≤ to) where
   -- what the row knows of the state before, if it asked of it
-  pub known : from < state.done
+  abbrev Known : Type 0
+  Known = from < state.done
       → (file : RegisterFile) × AreAlikeBeside file state.file state.moved × IsFirstIn file row None
+
+  known : Known
   known later = (
     states (state.done - 1),
     is.moved (state.done - 1) (omega arith),
     before.asking until (state.done - 1) (omega arith) (omega arith),
   )
 
-  -- what was found in the file was found in the state
-  pub here : (found : Option Run) → IsFirstIn state.file row found → IsFirstIn (states state.done) row found
-  here found first = subst (λ (f : RegisterFile). IsFirstIn f row found) is.file first
+  -- what was so found in the file was found in the state
+  pub here : (found : Option Run) → (Known → IsFirstIn state.file row found) → IsFirstIn (states state.done) row found
+  here found first = subst (λ (f : RegisterFile). IsFirstIn f row found) is.file (first known)
 
   -- and what isn't held there isn't in the last state
   pub loose : state.done ≡ to → (found : Option Run)
@@ -190,8 +193,7 @@ module _ (pace : Pace) (script : ScriptContents) (judged : Judged) (done : ℕ)
     within = is.within;
     from = is.from;
     to = is.to;
-    verdict = unasked (state_after pace script) judged.row judged.from judged.to done judged.verdict forward
-        is.verdict not;
+    verdict = unasked done judged.verdict forward is.verdict not;
   }
 
   -- once all states have gone by
@@ -204,10 +206,6 @@ module _ (pace : Pace) (script : ScriptContents) (judged : Judged) (done : ℕ)
 
 -- ---- all rows
 
-single : {X : Type 0} (P : X → Type 0) (x : X) → P x → All P (x ∷ [])
-single P x is zero d inside = is
-single P x is (suc k) d inside = absurd (omega arith)
-
 -- the one at place i is asked, of which P is known, and then Q
 module _ (P Q : Judged → Type 0) (rows : List Judged) (i : ℕ) (inside : i < length rows) (asked : Judged)
     (one : P (get_or rows i asked) → Q asked) where
@@ -216,6 +214,6 @@ module _ (P Q : Judged → Type 0) (rows : List Judged) (i : ℕ) (inside : i < 
   one_asked (before, after) =
       let left = rw (drop_more rows i asked inside) at after in (
         rw (take_more_set rows i asked inside)
-            (All-append Q (take i rows) (asked ∷ []) before (single Q asked (one (left 0 asked (omega arith))))),
+            (All-push Q (take i rows) asked before (one (left 0 asked (omega arith)))),
         rw (drop-set-lt (i + 1) rows i asked (omega arith)) (λ k d here. left (suc k) d (omega arith)),
       )

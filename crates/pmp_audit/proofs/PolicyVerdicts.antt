@@ -6,6 +6,7 @@ use Rattle.std.specs.List.{AllZip, enumerate_from, flat_map, position_from}
 use Rattle.std.specs.Option.{option_or}
 use Rattle.std.proofs.lemmas.List.{append-nil, flat_map_more, length-append, length-map, map-append, take_more}
 use Rattle.std.proofs.lemmas.List.Sums.{sum_by_push}
+use Rattle.std.proofs.lemmas.Slice.Zip.{AllZip-long}
 use Rattle.pmp_text.specs.declared.lines.verdict.Verdict.{Verdict}
 use Rattle.pmp_text.specs.Moments.{KnownMoments}
 use Rattle.pmp_text.specs.declared.policy.PolicyRow.{PolicyRow}
@@ -26,7 +27,7 @@ use Rattle.pmp_audit.specs.Moments.{AreMoments}
 use Rattle.pmp_audit.specs.PolicyRows.{AreWritten, IsToldOf}
 use Rattle.pmp_audit.specs.PolicySweep.{rows_of, told_of, verdicts_of}
 use Rattle.pmp_audit.specs.PolicyTexts.{PolicySays, policy_summary, told_rows, told_text}
-use Rattle.pmp_audit.proofs.Lists.{one_more_beside, same_length}
+use Rattle.pmp_audit.proofs.Lists.{one_more_beside}
 
 -- what is told of the row at this place
 abbrev rows_at : List LabelText → (index : ℕ) → List Verdict → List ℕ
@@ -105,7 +106,7 @@ module _ (Is : Judged → List Verdict → Type 0) (judged : List Judged) (label
         let rows_more = sym (map-append (λ (j : Judged). j.row) judged (one ∷ [])) in
         let verdicts_more = sym (map-append told_of judged (one ∷ [])) in
         let place : summary.rows ≡ length so_far.told =
-        rows_so_far ∙ same_length Is judged so_far.told so_far.told_are in
+        rows_so_far ∙ sym (AllZip-long Is judged so_far.told so_far.told_are) in
         let last = rows_at labels (length so_far.told) told in
         record {
           told = so_far.told ++ told ∷ [];

@@ -73,7 +73,7 @@ module _ (script trace : List ℕ) (contents : ScriptContents) (means : script_m
             → summary ≡ record { rows = behind.place.next - 1; faults = behind.faults; bare = behind.place.bare }
             → AuditSays script trace summary text
         says summary begun is = says_short script trace summary text short
-            (says_all script means 0 whole None None None tt trace refl summary begun is)
+            (says_all script means 0 whole None None tt trace refl summary begun is)
 
         pub no_header : behind.place.begun ≡ false → (out : Option (List ℕ))
             → Refused out out (Trace (at_row 0 (as_whole BadHeader)))

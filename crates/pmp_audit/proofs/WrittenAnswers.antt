@@ -56,25 +56,3 @@ module _ {A : Type 0} (Says : A → List ℕ → Type 0) (start after held : Lis
       (whole Says start after held made it empty same) Refuses never bad result told
 
 pub ruleset answer_rules = (written_so, refused_so)
-
--- where each text that goes with an answer so also goes with it otherwise
-module _ {A : Type 0} (Says Also : A → List ℕ → Type 0)
-    (also : (answer : A) (text : List ℕ) → Says answer text → Also answer text) (before after : Option (List ℕ)) where
-  pub written_also : (result : Result A AuditFault) → IfOk result (IsWritten Says before after)
-      → IfOk result (IsWritten Also before after)
-  written_also (Ok answer) it =
-      record { text = it.text; says = also answer it.text it.says; written = it.written }
-  written_also (Err fault) none = tt
-
-  module _ (Refuses : AuditFault → Type 0) where
-    stopped : (fault : AuditFault) → IsRefused Says before after (λ _. ⊥) fault
-        → IsRefused Also before after Refuses fault
-    stopped Memory kept = kept
-    stopped Output it =
-        record { answer = it.answer; text = it.text; says = also it.answer it.text it.says; front = it.front }
-    stopped fault (never, kept) = absurd never
-
-    pub refused_also : (result : Result A AuditFault) → IfErr result (IsRefused Says before after (λ _. ⊥))
-        → IfErr result (IsRefused Also before after Refuses)
-    refused_also (Ok answer) none = tt
-    refused_also (Err fault) it = stopped fault it

@@ -2,10 +2,9 @@
 use Rattle.std.proofs.Common.{◌≡◌, ℕ, suc, cond, ◌+◌, ◌<◌, min, List, [], ◌∷◌, ◌++◌, length}
 use Rattle.std.proofs.Common.{take, get_or}
 use Rattle.std.proofs.Common.{refl, sym, ap, ◌∙◌, append_assoc, append-nil, arith}
-use Rattle.std.specs.List.{count_by, enumerate_from, flat_map, range_with_len, slice_index_or, zip}
+use Rattle.std.specs.List.{count_by, enumerate_from, flat_map, slice_index_or, zip}
 use Rattle.std.proofs.lemmas.List.{take_all, take_more, take-append-le, length-append}
 use Rattle.std.proofs.lemmas.List.{length_push, length-map, get_or-map}
-use Rattle.std.proofs.lemmas.List.Concat.{flat_map-append}
 use Rattle.std.proofs.lemmas.List.Sums.{sum_by-cons}
 use Rattle.std.proofs.lemmas.Slice.Zip.{length-zip, get_or-zip}
 use Rattle.pmp_core.specs.declared.event.Event.{Event}
@@ -13,7 +12,7 @@ use Rattle.pmp_core.specs.RegisterFile.{RegisterFile}
 use Rattle.pmp_core.specs.RegisterWrite.{step}
 use Rattle.pmp_text.specs.Contents.{ScriptContents}
 use Rattle.pmp_text.specs.Effects.{effect_row}
-use Rattle.pmp_text.proofs.SpacedWords.{range_more}
+use Rattle.pmp_lint.proofs.Growing.{of_range_more}
 use Rattle.pmp_audit.specs.declared.write_list.EventSummary.{EventSummary}
 use Rattle.pmp_audit.specs.WriteList.{PlacedEvent, placed, events_of, file_before, rows_text, has_fault}
 use Rattle.pmp_audit.specs.WriteList.{event_summary}
@@ -199,7 +198,4 @@ pub events_more : (script : ScriptContents) (index : ℕ)
     → events_of script (index + 1) ≡ events_of script index
     ++ placed (index + 1) (slice_index_or script.lines index []) (slice_index_or script.batches index [])
 events_more script index =
-    let of : ℕ → List PlacedEvent =
-    λ i. placed (i + 1) (slice_index_or script.lines i []) (slice_index_or script.batches i []) in
-    ap (flat_map of) (range_more index) ∙ flat_map-append of (range_with_len 0 index) (index ∷ [])
-    ∙ ap (λ (l : List PlacedEvent). flat_map of (range_with_len 0 index) ++ l) (append-nil (of index))
+    of_range_more (λ i. placed (i + 1) (slice_index_or script.lines i []) (slice_index_or script.batches i [])) index

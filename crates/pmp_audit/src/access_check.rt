@@ -17,6 +17,7 @@ use std::io::Write;
 /// its report row, with the number 1.
 ///
 /// The row is complete before its first byte is written, so every refusal but `Output` leaves the output untouched.
+#[tactic(auto, using(crate::proofs::WrittenAnswers::answer_rules))]
 #[inline(never)]
 pub fn check<W: Write>(
     alloc: Global,

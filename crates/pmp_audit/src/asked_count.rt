@@ -1,25 +1,11 @@
 //! The number of a script's publications that a question asks for.
 
-ghost use Rattle.std.specs.Prelude.{◌≤◌, IfOk, IfErr, Some, length};
+ghost use Rattle.std.specs.Prelude.{◌≤◌, IfOk, IfErr, length};
 ghost use Rattle.pmp_audit.specs.AskedFile.{IsAsked, IsLacking};
 
 use crate::fault::AuditFault;
 use crate::moments::moments_of;
 use pmp_text::{Script, When};
-
-/// Returns how many are done then; `NoMoment` if the script has no such moment.
-fn count_at(script: &Script, when: When) -> Result<u64, AuditFault>
-    ensures ok { IfOk result (IsAsked (Some when) script.now) }
-    ensures err { IfErr result (IsLacking (Some when) script.now) }
-{
-    if let When::Number(count) = when {
-        return Ok(count);
-    }
-    match moments_of(script).after(when) {
-        Ok(count) => Ok(count),
-        Err(_) => Err(AuditFault::NoMoment),
-    }
-}
 
 /// Returns how many are done then, or the number of all if that is none; `BadAfter` if there are fewer, and `NoMoment`
 /// if the script has no such moment.
@@ -29,8 +15,12 @@ pub fn asked_count(script: &Script, after: Option<When>) -> Result<u64, AuditFau
     ensures lacking { IfErr result (IsLacking after script.now) }
 {
     let count = match after {
-        Some(when) => count_at(script, when)?,
         None => script.batches(),
+        Some(When::Number(count)) => count,
+        Some(When::Labelled(label)) => match moments_of(script).after(When::Labelled(label)) {
+            Ok(count) => count,
+            Err(_) => return Err(AuditFault::NoMoment),
+        },
     };
     if count > script.batches() {
         return Err(AuditFault::BadAfter);

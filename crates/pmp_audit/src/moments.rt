@@ -12,11 +12,7 @@ use pmp_text::{Lasting, Moments, Script};
 fn since(before: Option<u64>, holds: bool, done: u64) -> Option<u64>
     ensures { result ≡ since before holds done }
 {
-    if holds {
-        Some(before.unwrap_or(done))
-    } else {
-        None
-    }
+    holds.then_some(before.unwrap_or(done))
 }
 
 /// Returns the same for each lasting condition, given the register file after `done` publications.

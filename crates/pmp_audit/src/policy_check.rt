@@ -1,18 +1,16 @@
 //! The rows of a policy, each judged in all states that it asks about.
 
 ghost use Rattle.std.specs.Prelude.{◌≡◌, ◌+◌, ◌^◌, ◌<◌, ◌≤◌, ◌++◌, All, IfOk, IfErr, OnErr, OnOk, length, map};
-ghost use Rattle.std.specs.Prelude.{ℕ, [], List, None, Ok, Some, if◌then◌else◌, option_copied, option_map, slice_get};
-ghost use Rattle.std.specs.Option.{option_or};
+ghost use Rattle.std.specs.Prelude.{ℕ, List, None, Ok, option_copied, option_map, slice_get};
 ghost use Rattle.pmp_text.specs.Labels.{label_text};
 ghost use Rattle.pmp_text.specs.Scripts.{script_meaning};
 ghost use Rattle.pmp_text.specs.declared.lines.verdict.Verdict.{Verdict};
 ghost use Rattle.pmp_text.specs.declared.lines.verdict.Verdict.TheVariants.{Broken};
 ghost use Rattle.pmp_text.specs.Verdicts.{is_breach};
 ghost use Rattle.pmp_audit.specs.Answers.{Declines, IsAppended, IsWritten, IsRefused};
-ghost use Rattle.pmp_audit.specs.Fault.{fault_of_policy};
 ghost use Rattle.pmp_audit.specs.PolicyCheck.{PolicyRefuses, VerdictRefuses, VerdictSays};
 ghost use Rattle.pmp_audit.specs.PolicyRows.{AreWritten, IsToldOf};
-ghost use Rattle.pmp_audit.specs.PolicySweep.{rows_of, told_of};
+ghost use Rattle.pmp_audit.specs.PolicySweep.{rows_of};
 ghost use Rattle.pmp_audit.specs.PolicyTexts.{PolicySays, told_rows};
 
 mod breach_list;
@@ -102,28 +100,8 @@ fn check_rows<W: Write>(
     };
     let steps = Steps { script, pace };
     let judged = judge_rows(alloc, &steps, &policy.rows)?;
-    write_judged(alloc, &steps, breaches, &judged, &policy.labels, writer)
-}
-
-/// Writes what is told of the rows, with the labels of those that have one.
-fn write_judged<W: Write>(
-    alloc: Global,
-    steps: &Steps<'_>,
-    breaches: Breaches,
-    judged: &[Judged],
-    labels: &[Label],
-    writer: &mut W,
-) -> Result<PolicySummary, AuditFault>
-    requires { All (λ row. row.to ≤ length steps.now.script.now.batches) (rows_of judged.now) }
-    ensures ok { IfOk result (IsWritten (λ summary text. AreWritten
-        (IsToldOf breaches steps.now.pace steps.now.script.now) judged.now (map label_text labels.now) [] text
-        summary) (W.contents writer.old) (W.contents writer.new)) }
-    ensures err { IfErr result (IsRefused (λ summary text. AreWritten
-        (IsToldOf breaches steps.now.pace steps.now.script.now) judged.now (map label_text labels.now) [] text
-        summary) (W.contents writer.old) (W.contents writer.new) (λ _. ⊥)) }
-{
     let mut text = Vec::new(alloc);
-    let summary = write_verdicts(alloc, &mut text, steps, breaches, judged, labels)?;
+    let summary = write_verdicts(alloc, &mut text, &steps, breaches, &judged, &policy.labels)?;
     write_answer(writer, &text, Ok(summary))
 }
 
@@ -175,7 +153,9 @@ fn write_verdicts(
     let mut summary = PolicySummary::default();
     for one in judged {
         write_told(alloc, out, steps, breaches, one, summary.rows, labels)?;
-        summary.count(one);
+        summary.rows += 1;
+        summary.broken += u64::from(one.told().is_breach());
+        summary.bare = summary.bare.or(one.row.is_bare.then_some(summary.rows));
     }
     Ok(summary)
 }
@@ -231,22 +211,4 @@ fn write_breaches(
         write_verdict(out, number, Verdict::Broken(*breach), label)?;
     }
     Ok(())
-}
-
-impl PolicySummary {
-    /// Counts one more row.
-    fn count(&mut self, one: &Judged)
-        requires rows { self.old.rows + 1 < 2 ^ 64 }
-        requires broken { self.old.broken ≤ self.old.rows }
-        ensures rows { self.new.rows ≡ self.old.rows + 1 }
-        ensures broken { self.new.broken ≡ self.old.broken + (if is_breach (told_of one.now) then 1 else 0) }
-        ensures bare { self.new.bare ≡ option_or self.old.bare
-            (if one.now.row.is_bare then Some (self.old.rows + 1) else None) }
-    {
-        self.rows += 1;
-        if one.told().is_breach() {
-            self.broken += 1;
-        }
-        self.bare = self.bare.or(one.row.is_bare.then_some(self.rows));
-    }
 }

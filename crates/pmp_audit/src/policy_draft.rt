@@ -1,12 +1,12 @@
 //! A policy of all that is closed after the last publication of a script.
 
-ghost use Rattle.std.specs.Prelude.{◌≡◌, ◌≤◌, ◌<◌, ◌+◌, ◌++◌, IfErr, IfOk, OnErr, OnOk, length, is_some};
+ghost use Rattle.std.specs.Prelude.{◌≡◌, ◌<◌, ◌+◌, IfErr, IfOk, OnErr, is_some};
 ghost use Rattle.pmp_text.specs.declared.trace.reader.TheConstants.{MAX_TRACE};
 ghost use Rattle.pmp_lint.specs.EndState.{end_of};
 ghost use Rattle.pmp_audit.specs.Answers.{Declines, IsAppended, IsRefused, IsWritten};
 ghost use Rattle.pmp_audit.specs.Growing.{HasGrown};
 ghost use Rattle.pmp_audit.specs.PolicyDraft.{AreNeverRows, DraftRefuses, DraftSays, IsDraftText, IsModeText};
-ghost use Rattle.pmp_audit.specs.PolicyDraft.{header_text, last_moment, last_word};
+ghost use Rattle.pmp_audit.specs.PolicyDraft.{last_moment, last_word};
 
 mod closed_range;
 mod never_row;

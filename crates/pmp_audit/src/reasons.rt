@@ -1,9 +1,9 @@
 //! Why an access is decided as it is after some of a script's publications, and the findings in a script.
 
-ghost use Rattle.std.specs.Prelude.{◌≡◌, ◌≤◌, IfErr, IfOk, OnErr, length};
+ghost use Rattle.std.specs.Prelude.{◌≡◌, IfErr, IfOk, OnErr};
 ghost use Rattle.pmp_audit.specs.Answers.{Declines, IsAppended, IsRefused, IsWritten};
 ghost use Rattle.pmp_audit.specs.AskedFile.{FileRefuses};
-ghost use Rattle.pmp_audit.specs.Reasons.{FindingsSay, IsReasonText, ReasonsSay};
+ghost use Rattle.pmp_audit.specs.Reasons.{FindingsSay, ReasonsSay};
 ghost use Rattle.pmp_audit.specs.WriteList.{WritesRefuse};
 
 use crate::answer::write_answer;
@@ -11,7 +11,7 @@ use crate::asked_count::asked_count;
 use crate::fault::AuditFault;
 use pmp_core::{Access, Decision};
 use pmp_lint::{append_history, append_lint, append_why, why};
-use pmp_text::{EventLog, GrowingLog, NoMemory, Script, Sink, When, read_script};
+use pmp_text::{EventLog, GrowingLog, Sink, When, read_script};
 use std::alloc::Global;
 use std::io::Write;
 
@@ -19,6 +19,7 @@ use std::io::Write;
 /// and writes why, and after that row the report rows of its decisions at all moments.
 ///
 /// The rows are complete before their first byte is written, so every refusal but `Output` leaves the output untouched.
+#[tactic(auto, using(crate::proofs::WrittenAnswers::answer_rules))]
 pub fn explain<W: Write>(
     alloc: Global,
     script: &[u8],
@@ -54,25 +55,10 @@ pub fn append_reasons<L: EventLog, S: Sink>(
 {
     let script = read_script(log, script)?;
     let done = asked_count(&script, after)?;
-    Ok(append_reason(&script, done, access, out)?)
-}
-
-/// Decides the access once so many publications are done, and appends why it is decided so.
-fn append_reason<S: Sink>(
-    script: &Script,
-    done: u64,
-    access: &Access,
-    out: &mut S,
-) -> Result<Decision, NoMemory>
-    requires { done ≤ length script.now.batches }
-    ensures ok { IfOk result (IsAppended (λ decision text. IsReasonText access.now decision script.now done text)
-        (S.text out.old) (S.text out.new)) }
-    ensures kept { OnErr result (S.text out.new ≡ S.text out.old) }
-{
     let before = out.position();
-    let reason = why(script, done, access);
+    let reason = why(&script, done, access);
     append_why(out, access, &reason)?;
-    let written = append_history(out, script, access);
+    let written = append_history(out, &script, access);
     if written.is_err() {
         out.go_back(before);
     }
@@ -83,6 +69,7 @@ fn append_reason<S: Sink>(
 /// Writes a row for each finding of the script that isn't accepted, lint by lint, and returns their number.
 ///
 /// The rows are complete before their first byte is written, so every refusal but `Output` leaves the output untouched.
+#[tactic(auto, using(crate::proofs::WrittenAnswers::answer_rules))]
 pub fn lint<W: Write>(
     alloc: Global,
     script: &[u8],

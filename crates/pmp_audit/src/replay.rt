@@ -53,16 +53,6 @@ impl<'a> Replay<'a> {
         }
     }
 
-    /// Returns the state after the first `count` publications.
-    pub fn after(script: &'a Script<'a>, count: u64) -> Replay<'a>
-        requires { count ≤ length script.now.batches }
-        ensures { result ≡ record { script = script.now; done = count } }
-    {
-        let mut replay = Replay::new(script);
-        replay.advance(count);
-        replay
-    }
-
     /// Executes publications until the first `count` are done.
     pub fn advance(&mut self, count: u64)
         requires forward { self.old.done ≤ count }
@@ -116,7 +106,9 @@ pub fn file_of(script: &Script, count: u64) -> RegFile
     requires { count ≤ length script.now.batches }
     ensures { result ≡ file_of_script script.now count }
 {
-    *Replay::after(script, count).file()
+    let mut replay = Replay::new(script);
+    replay.advance(count);
+    *replay.file()
 }
 
 /// The register file after the publications of the script that are done then, or after all of them where that is none.

@@ -34,6 +34,7 @@ pub struct AskedChanges {
 ///
 /// The old script's fault comes first. The text is complete before its first byte is written, so every refusal but
 /// `Output` leaves the output untouched.
+#[tactic(auto, using(crate::proofs::WrittenAnswers::answer_rules))]
 #[inline(never)]
 pub fn diff<W: Write>(
     alloc: Global,

@@ -1,12 +1,12 @@
 //! The accesses of a trace, decided by several threads that share one unit.
 
-ghost use Rattle.std.specs.Prelude.{◌≡◌, ◌≤◌, ℕ, IfOk, IfErr, List, Ok, length};
+ghost use Rattle.std.specs.Prelude.{◌≡◌, ◌≤◌, ℕ, IfOk, IfErr, List, Ok};
 ghost use Rattle.pmp_share.specs.declared.opening.TheConstants.{CHECKERS};
 ghost use Rattle.pmp_text.specs.Scripts.{script_meaning};
 ghost use Rattle.pmp_text.specs.Sizes.{IsInLimits};
 ghost use Rattle.pmp_audit.specs.Answers.{IsWritten, IsRefused};
 ghost use Rattle.pmp_audit.specs.SharedAudit.{SharedAuditRefuses};
-ghost use Rattle.pmp_audit.specs.TraceAudit.{AuditSays, ReportSays};
+ghost use Rattle.pmp_audit.specs.TraceAudit.{AuditSays};
 
 mod asking;
 mod deciding;
@@ -22,10 +22,9 @@ use crate::gate::Gate;
 use crate::report::list_decisions;
 use crate::trace_audit::Summary;
 use deciding::decide_shared;
-use pmp_core::Decision;
 use pmp_core::laws::law_decided_by_ranges;
 use pmp_text::laws::{law_legal_start, law_script_size};
-use pmp_text::{GrowingLog, Row, Script, read_script, read_trace};
+use pmp_text::{GrowingLog, Script, read_script, read_trace};
 use std::alloc::Global;
 use std::io::Write;
 use std::sync::Wait;
@@ -85,23 +84,7 @@ fn audit_trace<R: Threads + Wait + Sync, G: Gate + Sync, W: Write>(
     let decisions = decide_shared(rt, alloc, gate, k, script, &rows)?;
     law_legal_start();
     law_decided_by_ranges();
-    write_report(alloc, &rows, &decisions, writer)
-}
-
-/// Writes the report of rows that are decided so.
-fn write_report<W: Write>(
-    alloc: Global,
-    rows: &[Row],
-    decisions: &[Decision],
-    writer: &mut W,
-) -> Result<Summary, AuditFault>
-    requires { length decisions.now ≡ length rows.now }
-    ensures ok { IfOk result
-        (IsWritten (ReportSays rows.now decisions.now) (W.contents writer.old) (W.contents writer.new)) }
-    ensures err { IfErr result
-        (IsRefused (ReportSays rows.now decisions.now) (W.contents writer.old) (W.contents writer.new) (λ _. ⊥)) }
-{
     let mut report = Vec::new(alloc);
-    let faults = list_decisions(&mut report, rows, decisions)?;
-    write_answer(writer, &report, Ok(Summary::of(rows, faults)))
+    let faults = list_decisions(&mut report, &rows, &decisions)?;
+    write_answer(writer, &report, Ok(Summary::of(&rows, faults)))
 }

@@ -70,6 +70,7 @@ pub fn map_of<W: Write>(
 /// none.
 ///
 /// The text is complete before its first byte is written, so every refusal but `Output` leaves the output untouched.
+#[tactic(auto, using(crate::proofs::WrittenAnswers::answer_rules))]
 #[inline(never)]
 pub fn show<W: Write>(
     alloc: Global,

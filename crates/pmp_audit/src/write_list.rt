@@ -1,6 +1,6 @@
 //! The effect of each event of a script on a register.
 
-ghost use Rattle.std.specs.Prelude.{◌≡◌, ◌+◌, ◌^◌, ◌<◌, ◌≤◌, IfOk, IfErr, OnErr, ◌++◌, length, if◌then◌else◌};
+ghost use Rattle.std.specs.Prelude.{◌≡◌, ◌+◌, ◌^◌, ◌<◌, ◌≤◌, IfOk, IfErr, OnErr, ◌++◌, length};
 ghost use Rattle.pmp_core.specs.RegisterWrite.{step};
 ghost use Rattle.pmp_text.specs.Sizes.{IsInLimits};
 ghost use Rattle.pmp_audit.specs.Answers.{Declines, IsAppended, IsWritten, IsRefused};
@@ -36,6 +36,7 @@ pub struct WriteSummary {
 /// `REASON:LINE` for this one, which commas separate; empty, it accepts none.
 ///
 /// The text is complete before its first byte is written, so every refusal but `Output` leaves the output untouched.
+#[tactic(auto, using(crate::proofs::WrittenAnswers::answer_rules))]
 #[inline(never)]
 pub fn writes<W: Write>(
     alloc: Global,
@@ -163,7 +164,11 @@ fn write_publication<S: Sink>(
             line: *line,
         };
         let after = write_effect(out, &place, file, *event)?;
-        summary.count(has_fault(accepted, *line, file, &after, *event));
+        let is_fault = has_fault(accepted, *line, file, &after, *event);
+        summary = EventSummary {
+            events: place.number,
+            not_stored: summary.not_stored + u64::from(is_fault),
+        };
         *file = after;
     }
     Ok(summary)
@@ -179,21 +184,5 @@ fn has_fault(accepted: &[u8], line: u64, file: &RegFile, after: &RegFile, event:
             after.read(csr) != value && has_other_reason(accepted, line, file, csr, value)
         }
         Event::Reset => false,
-    }
-}
-
-impl EventSummary {
-    /// Counts one more event.
-    fn count(&mut self, has_fault: bool)
-        requires room { self.old.events + 1 < 2 ^ 64 }
-        requires within { self.old.not_stored ≤ self.old.events }
-        ensures events { self.new.events ≡ self.old.events + 1 }
-        ensures not_stored { self.new.not_stored ≡ self.old.not_stored + (if has_fault then 1 else 0) }
-        ensures within { self.new.not_stored ≤ self.new.events }
-    {
-        self.events += 1;
-        if has_fault {
-            self.not_stored += 1;
-        }
     }
 }

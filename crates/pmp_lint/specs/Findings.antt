@@ -38,9 +38,6 @@ abbrev pub bytes_text : Option Span → List ℕ
 bytes_text None = codes ","
 bytes_text (Some span) = address_text span.first ++ (codes "," ++ address_text span.last)
 
-abbrev pub entry_text : Option ℕ → List ℕ
-entry_text = optional_text
-
 abbrev pub letter_text : Bool → List ℕ → List ℕ
 letter_text has letter = if has then letter else []
 
@@ -52,7 +49,7 @@ modes_text modes =
 abbrev pub finding_row : Finding → List ℕ
 finding_row finding =
     decimal (lint_number finding.lint)
-    ++ fields_after (lint_name finding.lint ∷ decimal finding.line ∷ entry_text finding.entry
+    ++ fields_after (lint_name finding.lint ∷ decimal finding.line ∷ optional_text finding.entry
     ∷ bytes_text finding.bytes ∷ modes_text finding.modes ∷ [])
 
 -- ---- which are told

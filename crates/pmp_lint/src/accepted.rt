@@ -1,8 +1,7 @@
 //! Names that are accepted: of findings, or of reasons why writes aren't stored.
 
 ghost use Rattle.std.specs.Prelude.{◌≡◌, option_map, position};
-ghost use Rattle.std.specs.List.{list_any};
-ghost use Rattle.pmp_lint.specs.Accepting.{is_accepted, is_colon, is_comma, is_meant, name_at, parts_of};
+ghost use Rattle.pmp_lint.specs.Accepting.{is_accepted, is_colon, is_meant, name_at};
 
 use pmp_text::read_word_number;
 

@@ -1,9 +1,9 @@
 //! The reason why an access is decided as it is.
 
-ghost use Rattle.std.specs.Prelude.{◌≡◌, ◌<◌, ◌≤◌, IfSome, IsTrue, length, option_map};
+ghost use Rattle.std.specs.Prelude.{◌≡◌, ◌<◌, ◌≤◌, IsTrue, length};
 ghost use Rattle.pmp_core.specs.Decision.{IsDecision};
 ghost use Rattle.pmp_text.specs.Reports.{entry_of, file_of_script};
-ghost use Rattle.pmp_lint.specs.Why.{IsSince, IsWhy, decoded};
+ghost use Rattle.pmp_lint.specs.Why.{IsSince, IsWhy};
 
 use crate::decider::Decider;
 use pmp_core::{Access, Cause, Decision, RegFile};
@@ -71,29 +71,19 @@ pub fn deciding_entry(cause: Cause) -> Option<u8>
     }
 }
 
-/// Returns that entry, decoded.
-fn decider_of(script: &Script<'_>, done: u64, file: &RegFile, entry: Option<u8>) -> Option<Decider>
-    requires within { done ≤ length script.now.batches }
-    requires file { file.now ≡ file_of_script script.now done }
-    requires entry { IfSome entry (λ entry. entry < length file.now.entries) }
-    ensures { result ≡ option_map (decoded script.now done) entry }
-{
-    match entry {
-        Some(entry) => Some(Decider::decode(script, done, file, entry)),
-        None => None,
-    }
-}
-
 /// Returns why the access is decided as it is after the script's first `done` publications.
 pub fn why(script: &Script<'_>, done: u64, access: &Access) -> Because
     requires { done ≤ length script.now.batches }
     ensures { IsWhy script.now done access.now result }
 {
     let decided = decided_at(script, done, access);
-    let entry = deciding_entry(decided.decision.cause);
+    let decider = match deciding_entry(decided.decision.cause) {
+        Some(entry) => Some(Decider::decode(script, done, &decided.file, entry)),
+        None => None,
+    };
     Because {
         decision: decided.decision,
         since: decided.since,
-        decider: decider_of(script, done, &decided.file, entry),
+        decider,
     }
 }

@@ -2,30 +2,15 @@
 
 ghost use Rattle.std.specs.Prelude.{◌≡◌, ◌++◌, OnErr, OnOk, Some};
 ghost use Rattle.pmp_text.specs.EntryRows.{lock_text, matching_text};
-ghost use Rattle.pmp_text.specs.Reports.{answer_text, cause_text, fields_after, optional_text};
+ghost use Rattle.pmp_text.specs.Reports.{answer_text, cause_text, fields_after};
 ghost use Rattle.pmp_lint.specs.WhyRows.{bit_text, bits_text, fields_of, held_text, table_text, why_row};
 
 use crate::because::{Because, deciding_entry};
 use crate::decider::{Decider, RuleBits};
-use crate::finding::Bytes;
+use crate::finding::{Bytes, Number};
 use pmp_core::{Access, AddressMatching, Cause, Lock, fault_code};
 use pmp_text::{NoMemory, Sink, append_line};
 use std::fmt;
-
-/// A number, or nothing.
-#[derive(Clone, Copy)]
-struct Number(Option<u64>);
-
-impl fmt::Display for Number {
-    ghost output = { λ number. Some (optional_text number.0) };
-
-    fn fmt<W: fmt::Write>(&self, f: &mut fmt::Formatter<W>) -> fmt::Result {
-        match self.0 {
-            Some(number) => write!(f, "{number}"),
-            None => Ok(()),
-        }
-    }
-}
 
 fn answer_word(allowed: bool) -> &'static str
     ensures { result.now ≡ answer_text allowed }

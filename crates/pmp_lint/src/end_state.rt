@@ -1,7 +1,6 @@
 //! Findings in the register file that a script leaves.
 
 ghost use Rattle.std.specs.Prelude.{◌≡◌, ◌<◌, ◌≤◌, length};
-ghost use Rattle.pmp_map.specs.Runs.{AreRuns};
 ghost use Rattle.pmp_lint.specs.EndState.{about_end, changed_last, end_of, has_bypassed, is_idle, is_locked, is_mmwp_off};
 ghost use Rattle.pmp_lint.specs.EndState.{found_if, is_any_frozen_from, is_any_locked};
 ghost use Rattle.pmp_lint.specs.EndState.{is_on, is_open_before, is_owner, mmwp_off, never_decides, open_before_locked};

@@ -1,7 +1,8 @@
 //! A finding, and its row.
 
 ghost use Rattle.std.specs.Prelude.{◌≡◌, Some};
-ghost use Rattle.pmp_lint.specs.Findings.{about_entry, about_script, bytes_text, entry_text, finding_row, letter_text};
+ghost use Rattle.pmp_text.specs.Reports.{optional_text};
+ghost use Rattle.pmp_lint.specs.Findings.{about_entry, about_script, bytes_text, finding_row, letter_text};
 
 use crate::lint::Lint;
 use pmp_core::Span;
@@ -57,16 +58,16 @@ impl Finding {
     }
 }
 
-/// An entry's number, or nothing.
+/// A number, or nothing.
 #[derive(Clone, Copy)]
-struct Entry(Option<u8>);
+pub struct Number(pub Option<u64>);
 
-impl fmt::Display for Entry {
-    ghost output = { λ entry. Some (entry_text entry.0) };
+impl fmt::Display for Number {
+    ghost output = { λ number. Some (optional_text number.0) };
 
     fn fmt<W: fmt::Write>(&self, f: &mut fmt::Formatter<W>) -> fmt::Result {
         match self.0 {
-            Some(entry) => write!(f, "{entry}"),
+            Some(number) => write!(f, "{number}"),
             None => Ok(()),
         }
     }
@@ -104,7 +105,7 @@ impl fmt::Display for Finding {
         let number = self.lint.number();
         let name = self.lint.name();
         let line = self.line;
-        let entry = Entry(self.entry);
+        let entry = Number(self.entry.map(u64::from));
         let bytes = Bytes(self.bytes);
         let machine = letter(self.modes.machine, "M");
         let supervisor = letter(self.modes.supervisor, "S");

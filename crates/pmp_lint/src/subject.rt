@@ -1,7 +1,6 @@
 //! The parts of the registers that events change.
 
-ghost use Rattle.std.specs.Prelude.{◌≡◌, ◌<◌};
-ghost use Rattle.pmp_core.specs.declared.size.TheConstants.{MAX_ENTRIES};
+ghost use Rattle.std.specs.Prelude.{◌≡◌};
 ghost use Rattle.pmp_lint.specs.Events.{differs};
 ghost use Rattle.pmp_lint.specs.Subjects.{IsSubject};
 

@@ -1,7 +1,6 @@
 //! Each breach of a policy's row, told in the state in which it begins.
 
 ghost use Rattle.std.specs.Prelude.{◌≡◌, ◌++◌, ◌<◌, ◌≤◌, [], IfOk, IfSome, OnOk, length};
-ghost use Rattle.std.specs.List.{list_any};
 ghost use Rattle.pmp_audit.specs.PolicyBreaches.{AreBreachesOf, AreFound, AreHits, begun, has_bytes, hit_of};
 
 use crate::policy_check::question::Question;

@@ -47,6 +47,7 @@ impl<'a> Steps<'a> {
     }
 
     /// Returns the events of the step with this index, from 0.
+    #[tactic(auto, using(crate::proofs::PolicySteps::one_event))]
     fn step(&self, index: u64) -> &'a [Event]
         requires { index < length (steps_of self.now.pace self.now.script.now.batches) }
         ensures { result.now ≡ slice_index_or (steps_of self.now.pace self.now.script.now.batches) index [] }

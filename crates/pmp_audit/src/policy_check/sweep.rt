@@ -124,19 +124,6 @@ fn ask_all(rows: &mut [Judged], state: &State)
     }
 }
 
-/// Returns the rows before the first state.
-fn unjudged(alloc: Global, steps: &Steps<'_>, rows: &[PolicyRow]) -> Result<Vec<Judged>, AllocError>
-    requires { All (λ row. row.to ≤ length steps.now.script.now.batches) rows.now }
-    ensures judged { IfOk result (λ all. All (IsJudged steps.now.pace steps.now.script.now 0) all.items) }
-    ensures rows { IfOk result (λ all. rows_of all.items ≡ rows.now) }
-{
-    let mut all = Vec::new(alloc);
-    for row in rows {
-        all.push(Judged::new(steps, row))?;
-    }
-    Ok(all)
-}
-
 /// Judges the rows in all states that they ask about. A state costs what its step may have moved: only rows without a
 /// breach that begin in it, or have such bytes, are checked.
 pub fn judge(steps: &Steps<'_>, rows: &mut [Judged])
@@ -164,7 +151,10 @@ pub fn judge_rows(
         All (λ one. IsVerdict steps.now.pace steps.now.script.now one.row (told_of one)) all.items) }
     ensures rows { IfOk result (λ all. rows_of all.items ≡ rows.now) }
 {
-    let mut all = unjudged(alloc, steps, rows)?;
+    let mut all = Vec::new(alloc);
+    for row in rows {
+        all.push(Judged::new(steps, row))?;
+    }
     judge(steps, &mut all);
     Ok(all)
 }

@@ -1,16 +1,10 @@
 use Rattle.pmp_audit.specs.AccessCheck.{CheckSays}
 use Rattle.pmp_audit.specs.AskedFile.{FileRefuses}
-use Rattle.pmp_audit.proofs.WrittenAnswers.{answered, refused, whole}
+use Rattle.pmp_audit.proofs.WrittenAnswers.{refused_so}
 use Rattle.pmp_audit.proofs.access_check.check.Goals as goal
-
-pub returns-clause-ok : goal.returns-clause-ok
-returns-clause-ok g c =
-    answered _ _ _ _ _ (whole (CheckSays c.args.script.now c.args.access.now c.args.after) _ _ _ _
-    c.append_check-decision.ensures.ok c.new-row.ensures.items c.deref.ensures.value) _ c.write_answer.ensures.ok
 
 pub returns-clause-err : goal.returns-clause-err
 returns-clause-err g c =
-    refused _ _ _ _ _ (whole (CheckSays c.args.script.now c.args.access.now c.args.after) _ _ _ _
-    c.append_check-decision.ensures.ok c.new-row.ensures.items c.deref.ensures.value)
-    (FileRefuses c.args.script.now c.args.after) (λ never. never)
-    c.append_check-decision.ensures.err _ c.write_answer.ensures.err
+    refused_so (CheckSays c.args.script.now c.args.access.now c.args.after) _ _ _ _ _ _
+    (FileRefuses c.args.script.now c.args.after) _ c.write_answer.ensures.err c.append_check-decision.ensures.ok
+    c.new-row.ensures.items c.deref.ensures.value c.append_check-decision.ensures.err (λ never. never)

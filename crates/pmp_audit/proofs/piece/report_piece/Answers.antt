@@ -1,11 +1,6 @@
 use Rattle.pmp_text.specs.Tables.{records_of}
-use Rattle.pmp_audit.proofs.PieceRows.{fails_with_header, none_without_header, with_header}
+use Rattle.pmp_audit.proofs.PieceRows.{fails_with_header, with_header}
 use Rattle.pmp_audit.proofs.piece.report_piece.Goals as goal
-
-pub report_rows-requires-clause-header : goal.report_rows-requires-clause-header
-report_rows-requires-clause-header c =
-    rw (c.place.ensures, c.in_ok-rows.ensures.rows)
-    (none_without_header c.args.standing.place.begun (records_of c.args.text.now))
 
 pub returns-clause-ok : goal.returns-clause-ok
 returns-clause-ok c =

@@ -1,6 +1,4 @@
-use Rattle.std.proofs.Common.{◌≡◌, None, zero, suc, List, [], ◌∷◌, refl, arith}
-use Rattle.std.specs.Prelude.{All}
-use Rattle.pmp_audit.specs.PolicySweep.{IsJudged}
+use Rattle.std.proofs.Common.{None}
 use Rattle.std.proofs.Common.{◌≡◌, ◌<◌, ◌∙◌, List, ap, arith, get_or, length, refl, subst, sym}
 use Rattle.std.proofs.lemmas.List.{get_or-map}
 use Rattle.pmp_text.specs.declared.policy.PolicyRow.{PolicyRow}
@@ -32,14 +30,3 @@ returns-clause-ok g c =
       };
       appended = c.in_ok-write_verdict.ensures.ok;
     }
-
-pub returns-in-Err-clause-err : goal.returns-in-Err-clause-err
-returns-in-Err-clause-err g c =
-    (c.in_ok-script.script, c.in_ok-script.ensures, rw (c.at_row.ensures, ← c.batches.ensures, c.in-Err.ensures.err) refl)
-
-alone : {A : Type 0} (P : A → Type 0) (one : A) → P one → All P (one ∷ [])
-alone P one holds zero d inside = holds
-alone P one holds (suc k) d inside = absurd (omega arith)
-
-pub judge-requires : goal.judge-requires
-judge-requires g c = alone (IsJudged c.args.pace c.in_ok-script.script 0) c.new-2.result c.new-2.ensures.judged

@@ -1,11 +1,8 @@
-use Rattle.std.proofs.lemmas.Result.{IfOk-from_err, err_from_is_err_and}
+use Rattle.std.proofs.lemmas.Result.{err_from_is_err_and}
 use Rattle.pmp_audit.specs.PolicyCheck.{PolicyRefuses}
 use Rattle.pmp_audit.specs.PolicyTexts.{PolicySays}
 use Rattle.pmp_audit.proofs.FaultyInputs.{script_refused}
 use Rattle.pmp_audit.proofs.policy_check.check_policy.Goals as goal
-
-pub returns-in_err-script-clause-ok : goal.returns-in_err-script-clause-ok
-returns-in_err-script-clause-ok g c = IfOk-from_err _ _ c.from_residual.ensures.0
 
 pub returns-in_err-script-clause-err : goal.returns-in_err-script-clause-err
 returns-in_err-script-clause-err g c =

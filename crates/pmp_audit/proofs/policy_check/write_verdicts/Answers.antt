@@ -1,4 +1,4 @@
-use Rattle.std.proofs.Common.{map, take, arith}
+use Rattle.std.proofs.Common.{map, take, arith, refl, rules}
 use Rattle.std.proofs.lemmas.List.{get_or-map, length-map, length-take-le}
 use Rattle.pmp_text.specs.Labels.{label_text}
 use Rattle.pmp_audit.specs.declared.policy_check.sweep.Judged.{Judged}
@@ -27,8 +27,8 @@ loop-one-preserved c =
     let (told, is, text) = c.in_ok-write_told.ensures in
     rw (one_row_more all i c.one-item.result c.loop-one-test.true c.one-item.is)
     (one_written _ (take i all) (map label_text c.args.labels.now) c.args.out.now.items c.loop-one.out.items
-    c.loop-one.summary c.loop-one.invariant c.one-item.result c.write_told.new.out.items c.count.new.self told is
-    (rw (← c.count.ensures.rows) at text) (c.count.ensures.rows, c.count.ensures.broken, c.count.ensures.bare))
+    c.loop-one.summary c.loop-one.invariant c.one-item.result c.write_told.new.out.items _ told is text
+    (refl, search rules, search rules))
 
 pub write_told-requires-clause-within : goal.write_told-requires-clause-within
 write_told-requires-clause-within c =

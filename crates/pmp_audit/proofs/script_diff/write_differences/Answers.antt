@@ -20,6 +20,3 @@ loop-first-preserved g c =
     c.loop-first.rows (g.S.Sink.text c.loop-first.out) (g.S.Sink.text c.write_change.new.out) run
     c.loop-first.invariant c.compared_run_from-run.ensures.begins c.compared_run_from-run.ensures.longest
     c.in_ok-write_change.ensures.ok)
-
-pub returns-clause-few : goal.returns-clause-few
-returns-clause-few g c = omega (arith, c.loop-first.invariant.few, c.loop-first.invariant.inside)

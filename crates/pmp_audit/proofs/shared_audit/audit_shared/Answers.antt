@@ -1,6 +1,5 @@
 use Rattle.std.proofs.Common.{rules}
 use Rattle.std.proofs.lemmas.Result.{err_from_is_err_and}
-use Rattle.std.proofs.lemmas.Result.{IfOk-from_err}
 use Rattle.pmp_text.specs.Sizes.{IsInLimits}
 use Rattle.pmp_audit.specs.SharedAudit.{SharedAuditRefuses}
 use Rattle.pmp_audit.specs.TraceAudit.{AuditSays}
@@ -12,9 +11,6 @@ audit_trace-requires-clause-size g c =
     let limits : IsInLimits c.in_ok-script.script.batches =
     c.law_script_size.ensures c.args.script.now c.in_ok-script.script c.in_ok-script.ensures in
     search rules
-
-pub returns-in_err-script-clause-ok : goal.returns-in_err-script-clause-ok
-returns-in_err-script-clause-ok g c = IfOk-from_err _ _ c.from_residual.ensures.0
 
 pub returns-in_err-script-clause-err : goal.returns-in_err-script-clause-err
 returns-in_err-script-clause-err g c =

@@ -2,10 +2,11 @@ use Rattle.std.proofs.Common.{◌≡◌, ◌+◌, ◌<◌, [], length, take, sli
 use Rattle.std.specs.List.{list_all}
 use Rattle.pmp_core.specs.Histories.{is_write}
 use Rattle.pmp_core.specs.RegisterFile.{is_frozen, is_held}
+use Rattle.pmp_core.proofs.Held.{held_still}
 use Rattle.pmp_text.specs.EntryRows.{no_since}
 use Rattle.pmp_text.specs.Reports.{file_behind}
 use Rattle.pmp_audit.specs.Replay.{Position, file_at}
-use Rattle.pmp_audit.proofs.EntriesSince.{same_entries, frozen_lasts, held_lasts, nothing_at}
+use Rattle.pmp_audit.proofs.EntriesSince.{same_entries, frozen_lasts, nothing_at}
 use Rattle.pmp_audit.proofs.EntriesSince.{since_first, since_more}
 use Rattle.pmp_audit.proofs.since.since_of.Goals as goal
 
@@ -57,7 +58,7 @@ loop-index-preserved c =
           record {
             frozen = since_more is_frozen frozen_lasts n script.batches loop.index i old.frozen _ c.file-in-loop-index.result.now _
                 (omega arith) file writes (c.count_in-in-loop-index.ensures.frozen i entry) before.frozen;
-            held = since_more is_held held_lasts n script.batches loop.index i old.held _ c.file-in-loop-index.result.now _
+            held = since_more is_held held_still n script.batches loop.index i old.held _ c.file-in-loop-index.result.now _
                 (omega arith) file writes (c.count_in-in-loop-index.ensures.held i entry) before.held;
           };
     }

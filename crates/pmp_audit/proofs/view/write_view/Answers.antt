@@ -11,12 +11,3 @@ write_entries-requires g c =
     (c.file.ensures ∙ ap file_at c.since_of-replay.ensures.position) in
     let places : length c.since_of-replay.result.1 ≡ 64 = search rules in
     omega (arith, few, c.requires.legal.profile.few, places)
-
-pub returns-in-Picture-clause-ok : goal.returns-in-Picture-clause-ok
-returns-in-Picture-clause-ok g c = search rules
-
-pub returns-in-Script-clause-ok : goal.returns-in-Script-clause-ok
-returns-in-Script-clause-ok g c = search rules
-
-pub returns-in-Entries-clause-ok : goal.returns-in-Entries-clause-ok
-returns-in-Entries-clause-ok g c = search rules

@@ -1,4 +1,4 @@
-use Rattle.std.proofs.Common.{length}
+use Rattle.std.proofs.Common.{length, refl, rules}
 use Rattle.std.proofs.lemmas.List.{length_push}
 use Rattle.std.proofs.lemmas.Slice.Zip.{zip_turn, zip_end}
 use Rattle.pmp_audit.proofs.WrittenEvents.{placed_more, all_placed, one_written, written_then}
@@ -16,9 +16,9 @@ loop-line-preserved g c =
     c.in-Some.event.now turn.0 turn.1 turn.2 turn.3 in
     record {
       written = rw (length_push, more) (written_then _ _ _ _ _ _ c.loop-line.invariant.written
-          (one_written _ _ _ _ c.in_ok-after.ensures.ok c.in_ok-after.ensures.next c.count.ensures.events
-          (rw (c.has_fault.ensures c.in_ok-after.ensures.next) at c.count.ensures.not_stored)));
-      within = c.count.ensures.within;
+          (one_written _ _ _ _ c.in_ok-after.ensures.ok c.in_ok-after.ensures.next refl
+          (let fault = c.has_fault-is_fault.ensures c.in_ok-after.ensures.next in search rules)));
+      within = search rules;
     }
 
 pub returns-clause-written : goal.returns-clause-written

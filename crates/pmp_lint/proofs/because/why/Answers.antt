@@ -1,5 +1,4 @@
-use Rattle.std.proofs.Common.{◌∙◌, ap, option_map}
-use Rattle.pmp_lint.specs.Why.{decoded}
+use Rattle.std.proofs.Common.{rules}
 use Rattle.pmp_lint.proofs.because.why.Goals as goal
 
 pub returns : goal.returns
@@ -8,6 +7,5 @@ returns c =
     record {
       by_bytes = rw decided.file at decided.by_bytes;
       since = decided.since;
-      decider = c.decider_of.ensures
-          ∙ ap (option_map (decoded c.args.script.now c.args.done)) c.deciding_entry-entry.ensures;
+      decider = search rules;
     }

@@ -1,14 +1,15 @@
 use denote.Enum.Bare.{same_true}
-use Rattle.std.proofs.Common.{◌≡◌, ◌∙◌, ◌++◌, [], ap, append-nil, arith, length, refl, rules, subst, sym}
+use Rattle.std.proofs.Common.{◌≡◌, ◌∙◌, [], ap, append-nil, arith, length, refl, rules, subst, sym}
 use Rattle.std.specs.Vec.{vec_len}
 use Rattle.std.proofs.lemmas.Bool.{false≢true}
+use Rattle.std.proofs.lemmas.List.{nil_from_length}
 use Rattle.pmp_core.specs.RegisterFile.{RegisterFile}
 use Rattle.pmp_text.specs.contracts.policy.Demand.{the_type}
 use Rattle.pmp_text.specs.declared.policy.Demand.TheVariants.{Held}
 use Rattle.pmp_audit.specs.declared.policy_check.question.Question.TheVariants.{IsNotHeld}
 use Rattle.pmp_audit.specs.PolicyBreaches.{AreHits, begun}
 use Rattle.pmp_audit.specs.PolicyCheck.{state_after, step_count}
-use Rattle.pmp_audit.proofs.PolicyBegun.{loose_here, no_items, none_loose}
+use Rattle.pmp_audit.proofs.PolicyBegun.{loose_here, none_loose}
 use Rattle.pmp_audit.proofs.PolicySteps.{steps_within}
 use Rattle.pmp_audit.proofs.policy_check.breach_list.breaches_of.Goals as goal
 use Rattle.pmp_audit.proofs.policy_check.breach_list.breaches_of.Goals.{then-eq+then-is_empty+in_ok-loose+in_ok-add_begun}
@@ -33,7 +34,7 @@ returns c =
           let held : row.demand ≡ Held = same_true the_type (search rules) _ _ (sym w.if-eq.ensures) in
           let count : length found ≡ 0 =
           grind (arith, w.is_empty.ensures, w.if-is_empty.true, c.in_ok-all.all.ok.0) in
-          let none : found ≡ [] = no_items found count in
+          let none : found ≡ [] = nil_from_length found count in
           let loose = w.in_ok-loose.loose.items in
           let file : w.state_at-last.result.file ≡ states to =
           w.state_at-last.ensures.is.file ∙ ap states (w.state_at-last.ensures.done ∙ w.count-to.ensures) in

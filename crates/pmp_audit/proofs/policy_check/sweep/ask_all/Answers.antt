@@ -1,6 +1,6 @@
 use Rattle.std.proofs.Common.{◌+◌, ◌<◌, ◌∙◌, arith, length, subst}
 use Rattle.std.proofs.Math.Seq.{map-set_same}
-use Rattle.std.proofs.lemmas.List.{get_or_default, take_all}
+use Rattle.std.proofs.lemmas.List.{get_or_default}
 use Rattle.pmp_audit.specs.declared.policy_check.sweep.Judged.{Judged}
 use Rattle.pmp_audit.specs.PolicySweep.{IsJudged}
 use Rattle.pmp_audit.proofs.PolicySweep.{one_asked}
@@ -22,8 +22,3 @@ loop-row-preserved c =
           (c.loop-row.invariant.judged pace script is before);
       rows = map-set_same (λ (j : Judged). j.row) rows i asked one c.ask.ensures.row ∙ c.loop-row.invariant.rows;
     }
-
-pub returns-clause-judged : goal.returns-clause-judged
-returns-clause-judged c = λ pace script is before.
-    rw (take_all c.loop-row.row-index c.loop-row.rows (omega (arith, c.loop-row-test.false, c.loop-row.auto.rows)))
-    at ((c.loop-row.invariant.judged pace script is before).0)

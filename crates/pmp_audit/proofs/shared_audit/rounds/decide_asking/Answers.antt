@@ -1,5 +1,4 @@
 use Rattle.std.proofs.lemmas.Result.{err_from_is_err_and}
-use Rattle.std.proofs.lemmas.Result.{IfOk-from_err}
 use Rattle.std.proofs.Common.{◌≡◌, ◌∙◌, ℕ, List, [], length, take, drop, sym, ap, ◌-◌, ◌≤◌, arith}
 use Rattle.std.specs.Prelude.{Any}
 use Rattle.std.proofs.lemmas.Bool.{false≢true}
@@ -18,15 +17,6 @@ asked after count rows next within is some =
     let whole : take (length rows - count) left ≡ left =
     take_all (length rows - count) left (omega (arith, length-drop count rows)) in
     some_asks after count rows (λ none. some (is ∙ ap (asking after) whole ∙ none))
-
-pub returns-in_err-idle-clause-ok : goal.returns-in_err-idle-clause-ok
-returns-in_err-idle-clause-ok g c = IfOk-from_err _ _ c.from_residual.ensures.0
-
-pub returns-in_err-all-clause-ok : goal.returns-in_err-all-clause-ok
-returns-in_err-all-clause-ok g c = IfOk-from_err _ _ c.from_residual-in_err-all.ensures.0
-
-pub returns-in_err-append-clause-ok : goal.returns-in_err-append-clause-ok
-returns-in_err-append-clause-ok g c = IfOk-from_err _ _ c.from_residual-in_err-append.ensures.0
 
 pub returns-in_err-idle-clause-err : goal.returns-in_err-idle-clause-err
 returns-in_err-idle-clause-err g c =

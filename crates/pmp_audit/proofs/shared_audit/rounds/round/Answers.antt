@@ -1,5 +1,3 @@
-use Rattle.std.proofs.lemmas.Result.{err_from_is_err_and}
-use Rattle.std.proofs.lemmas.Result.{IfOk-from_err}
 use Rattle.std.proofs.Common.{◌≡◌, ◌+◌, arith, inl, inr, length, rules}
 use Rattle.std.proofs.lemmas.List.{length-map}
 use Rattle.pmp_share.specs.Batches.{file_from}
@@ -46,36 +44,3 @@ returns-in_err-all-clause-err g c =
       | inr memory ↦ rw memory tt
     ] in
     search rules
-
-pub returns-in_err-jobs-clause-ok : goal.returns-in_err-jobs-clause-ok
-returns-in_err-jobs-clause-ok g c = IfOk-from_err _ _ c.from_residual.ensures.0
-
-pub returns-in_err-results-clause-ok : goal.returns-in_err-results-clause-ok
-returns-in_err-results-clause-ok g c = IfOk-from_err _ _ c.from_residual-in_err-results.ensures.0
-
-pub returns-in_err-all-clause-ok : goal.returns-in_err-all-clause-ok
-returns-in_err-all-clause-ok g c = IfOk-from_err _ _ c.from_residual-in_err-all.ensures.0
-
-pub returns-in_err-merge-clause-ok : goal.returns-in_err-merge-clause-ok
-returns-in_err-merge-clause-ok g c = IfOk-from_err _ _ c.from_residual-in_err-merge.ensures.0
-
-pub returns-in_err-checkers_of-clause-ok : goal.returns-in_err-checkers_of-clause-ok
-returns-in_err-checkers_of-clause-ok g c = IfOk-from_err _ _ c.from_residual-in_err-checkers_of.ensures.0
-
-pub returns-in_err-results-clause-err : goal.returns-in_err-results-clause-err
-returns-in_err-results-clause-err g c =
-    let exit = c.from_residual-in_err-results in
-    let p = err_from_is_err_and exit.result exit.ensures.1 in
-    rw (p.1, p.2) tt
-
-pub returns-in_err-merge-clause-err : goal.returns-in_err-merge-clause-err
-returns-in_err-merge-clause-err g c =
-    let exit = c.from_residual-in_err-merge in
-    let p = err_from_is_err_and exit.result exit.ensures.1 in
-    rw (p.1, p.2) tt
-
-pub returns-in_err-checkers_of-clause-err : goal.returns-in_err-checkers_of-clause-err
-returns-in_err-checkers_of-clause-err g c =
-    let exit = c.from_residual-in_err-checkers_of in
-    let p = err_from_is_err_and exit.result exit.ensures.1 in
-    rw (p.1, p.2) tt

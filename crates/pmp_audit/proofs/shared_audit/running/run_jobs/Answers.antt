@@ -1,7 +1,6 @@
 use denote.Param.Send.{sendable}
-use Rattle.std.proofs.Common.{◌≡◌, ◌∙◌, ◌∷◌, [], ◌++◌, Err, IfOk, Ok, Result, length, sym, ap, arith, append_assoc}
+use Rattle.std.proofs.Common.{◌≡◌, ◌∙◌, ◌∷◌, [], Err, IfOk, Ok, Result, length, ap, arith, append_assoc}
 use Rattle.std.proofs.Crossing.{crosses}
-use Rattle.std.specs.Vec.Iter.{into_iter_items}
 use Rattle.pmp_audit.proofs.Crossing.{job_send, done_send, fault_send}
 use Rattle.pmp_audit.proofs.Merging.{one_result}
 use Rattle.pmp_audit.proofs.shared_audit.running.run_jobs.Goals as goal
@@ -29,20 +28,14 @@ returns-then-may_wait g c =
     }) c.map_vec.ensures.len c.map_vec.ensures.each
 
 pub loop-job-preserved : goal.loop-job-preserved
-loop-job-preserved g c =
-    let at = c.loop-job in
-    let x = c.in-Some.job in
-    let rest = into_iter_items c.next.new.self in
-    let steps : into_iter_items at.job-iterator ≡ x ∷ rest = c.in-Some.ensures.steps.0 in
-    let whole : at.yielded ++ (x ∷ rest) ≡ c.args.jobs.items =
-    ap (λ l. at.yielded ++ l) (sym steps) ∙ at.invariant.whole in
-    record {
-      whole = append_assoc at.yielded (x ∷ []) rest ∙ whole;
-      left =
-          let was = at.invariant.left in
-          let gone = c.in-Some.ensures.steps.1 in
-          let short = ap length steps in
-          omega arith;
-      results = rw c.in_ok-push.ensures.items (one_result c.len.result c.args.first c.args.rows.now at.yielded
-          at.results.items at.invariant.results x c.work.result c.work.ensures.result);
-    }
+loop-job-preserved g c = record {
+  whole = append_assoc c.loop-job.yielded (c.in-Some.job ∷ []) _
+      ∙ rw c.in-Some.ensures.steps.0 at c.loop-job.invariant.whole;
+  left =
+      let was = c.loop-job.invariant.left in
+      let gone = c.in-Some.ensures.steps.1 in
+      let short = ap length c.in-Some.ensures.steps.0 in
+      omega arith;
+  results = rw c.in_ok-push.ensures.items (one_result c.len.result c.args.first c.args.rows.now c.loop-job.yielded
+      c.loop-job.results.items c.loop-job.invariant.results c.in-Some.job c.work.result c.work.ensures.result);
+}

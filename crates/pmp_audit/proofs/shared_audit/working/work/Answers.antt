@@ -1,4 +1,3 @@
-use Rattle.std.proofs.Common.{rules}
 use Rattle.std.proofs.Common.{◌≡◌, ◌∙◌, ◌+◌, ◌*◌, ◌<◌, ℕ, List, Some, ap, sym, length, arith, get_or}
 use Rattle.std.proofs.Math.Nat.{add-mul}
 use Rattle.std.specs.Prelude.{slice_get}
@@ -70,6 +69,3 @@ returns-clause-result g c =
       };
       refused = tt;
     }
-
-pub loop-place-init : goal.loop-place-init
-loop-place-init g c = search rules

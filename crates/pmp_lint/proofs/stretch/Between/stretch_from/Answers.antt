@@ -2,11 +2,6 @@ use Rattle.std.proofs.Common.{◌+◌, refl, sym, arith, true≢false}
 use Rattle.pmp_lint.proofs.Stretches.{alike_more, opened_once}
 use Rattle.pmp_lint.proofs.stretch.Between.stretch_from.Goals as goal
 
-pub loop-stretch-init : goal.loop-stretch-init
-loop-stretch-init c =
-    let e = c.owned_from-stretch.ensures in
-    record { begins = e.begins; proper = e.proper; below = e.below; alike = e.alike }
-
 pub returns-then-not-is_like-clause-longest : goal.returns-then-not-is_like-clause-longest
 returns-then-not-is_like-clause-longest c =
     let so_far = c.loop-stretch.invariant in

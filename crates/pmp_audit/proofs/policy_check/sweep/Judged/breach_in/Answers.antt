@@ -3,61 +3,37 @@ use Rattle.std.proofs.Common.{◌≡◌, ◌≢◌, ◌∙◌, None, Some, refl,
 use Rattle.std.proofs.lemmas.Bool.{false≢true}
 use Rattle.pmp_text.specs.contracts.policy.Demand.{the_type}
 use Rattle.pmp_text.specs.declared.policy.Demand.TheVariants.{Held}
-use Rattle.pmp_audit.proofs.PolicySweep.{breaks, held_or_not, here, holds_on, known, loose}
+use Rattle.pmp_audit.proofs.PolicySweep.{breaks, held_or_not, here, holds_on, loose}
 use Rattle.pmp_audit.proofs.policy_check.sweep.Judged.breach_in.Goals as goal
 use Rattle.pmp_audit.proofs.policy_check.sweep.Judged.breach_in.Goals.{else-eq-via-then-eq+else-done-self, else-eq-via-else-eq}
 
 pub returns-in-Some : goal.returns-in-Some
 returns-in-Some c = λ states is before.
-    let row = c.args.self.now.row in
-    let from = c.args.self.now.from in
-    let to = c.args.self.now.to in
-    let state = c.args.state.now in
-    let until = c.requires.1 in
-    breaks states row from to state.done c.requires.0 until before _ refl
-    (here states state row from to is before until (Some c.in-Some.run')
-    (c.in-Some.ensures (known states state row from to is before until)))
+    breaks c.requires.0 c.requires.1 before _ refl
+    (here is before c.requires.1 (Some c.in-Some.run') c.in-Some.ensures)
 
 pub returns-in_err-run : goal.returns-in_err-run
 returns-in_err-run c = λ states is before.
-    let row = c.args.self.now.row in
-    let from = c.args.self.now.from in
-    let to = c.args.self.now.to in
-    let state = c.args.state.now in
-    let until = c.requires.1 in
-    let none = here states state row from to is before until None
-    (c.in_default.ensures (known states state row from to is before until)) in
-    let held : row.demand ≡ Held = same_true the_type (search rules) _ _ (sym c.if-eq.ensures) in
+    let none = here is before c.requires.1 None c.in_default.ensures in
+    let held : c.args.self.now.row.demand ≡ Held = same_true the_type (search rules) _ _ (sym c.if-eq.ensures) in
     let last = c.if-done-self.true in
-    rw c.from_residual.ensures (held_or_not states row from to state.done c.requires.0 until before none None held
-    (sym last) (loose states state row from to is before until last None c.in_err-run.ensures))
+    rw c.from_residual.ensures (held_or_not c.requires.0 c.requires.1 before none None held (sym last)
+    (loose is before c.requires.1 last None c.in_err-run.ensures))
 
 pub returns-then-done-self : goal.returns-then-done-self
 returns-then-done-self c = λ states is before.
-    let row = c.args.self.now.row in
-    let from = c.args.self.now.from in
-    let to = c.args.self.now.to in
-    let state = c.args.state.now in
-    let until = c.requires.1 in
-    let none = here states state row from to is before until None
-    (c.in_default.ensures (known states state row from to is before until)) in
-    let held : row.demand ≡ Held = same_true the_type (search rules) _ _ (sym c.if-eq.ensures) in
+    let none = here is before c.requires.1 None c.in_default.ensures in
+    let held : c.args.self.now.row.demand ≡ Held = same_true the_type (search rules) _ _ (sym c.if-eq.ensures) in
     let last = c.if-done-self.true in
-    held_or_not states row from to state.done c.requires.0 until before none _ held
-    (sym last) (loose states state row from to is before until last (Some c.in_ok-run.run') c.in_ok-run.ensures)
+    held_or_not c.requires.0 c.requires.1 before none _ held (sym last)
+    (loose is before c.requires.1 last (Some c.in_ok-run.run') c.in_ok-run.ensures)
 
 pub returns : goal.returns
 returns c = λ states is before.
-    let row = c.args.self.now.row in
-    let from = c.args.self.now.from in
-    let to = c.args.self.now.to in
-    let state = c.args.state.now in
-    let until = c.requires.1 in
-    let none = here states state row from to is before until None
-    (c.in_default.ensures (known states state row from to is before until)) in
-    let other : row.demand ≡ Held → state.done ≢ to = elim c.else-eq.branch [
+    let other : c.args.self.now.row.demand ≡ Held → c.args.state.now.done ≢ c.args.self.now.to =
+    elim c.else-eq.branch [
       | else-eq-via-then-eq+else-done-self w ↦ λ held last. w.if-done-self.false last
       | else-eq-via-else-eq w ↦ λ held last.
           false≢true (sym w.if-eq.false ∙ (rw held at c.eq.ensures))
     ] in
-    holds_on states row from to state.done c.requires.0 until before none other
+    holds_on c.requires.0 c.requires.1 before (here is before c.requires.1 None c.in_default.ensures) other

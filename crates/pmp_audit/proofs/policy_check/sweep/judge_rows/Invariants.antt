@@ -1,7 +1,7 @@
 use Rattle.std.proofs.Common.{◌≡◌, take}
 use Rattle.std.specs.Prelude.{All}
 use Rattle.pmp_audit.specs.PolicySweep.{IsJudged, rows_of}
-use Rattle.pmp_audit.proofs.policy_check.sweep.unjudged.Given as goal
+use Rattle.pmp_audit.proofs.policy_check.sweep.judge_rows.Given as goal
 
 abbrev pub invariant-loop-row : goal.invariant-loop-row
 invariant-loop-row l = record {
