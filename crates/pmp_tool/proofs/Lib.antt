@@ -5,6 +5,5 @@ pub mod HartComparing
 pub mod HartImporting
 pub mod Harting
 pub mod LineLengths
-pub mod Matching
 pub mod Running
 pub mod Telling

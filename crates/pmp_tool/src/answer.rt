@@ -19,14 +19,14 @@ use crate::naming::Naming;
 use crate::note::Note;
 use crate::numbered_inputs::{open_trace, read_trace};
 use crate::outcome::Outcome;
-use crate::plan_answers::{answer_plan, answer_plan_of};
-use crate::request::{Audit, Check, Diff, Import, LongAudit, Policy, Request, Why};
-use crate::script_answers::{answer_lint, answer_policy_from, answer_writes};
+use crate::plan_answers::answer_plan;
+use crate::request::{Audit, Diff, Import, LongAudit, Policy, Request};
 use pmp_audit::{
-    OpenGate, PIECE, Side, View, audit, audit_long, audit_shared, check, check_policy, diff,
-    explain, show,
+    OpenGate, PIECE, Side, audit, audit_long, audit_shared, check, check_policy, diff, explain,
+    lint, policy_from, show, writes,
 };
 use pmp_import::{Given, import, survey_log};
+use pmp_plan::write_plan_of;
 use pmp_text::{MAX_HEADED_SCRIPT, Refusal, When, is_headed};
 use std::alloc::Global;
 use std::io::Write;
@@ -69,22 +69,46 @@ fn answer_request<R: Threads + Wait + Sync, I: Inputs, O: Write>(
     ensures paths { I.paths inputs.new ≡ I.paths inputs.old }
 {
     match request {
-        Request::Check(asked) => answer_check(alloc, script, asked, out),
-        Request::Why(asked) => answer_why(alloc, script, asked, out),
+        Request::Check(asked) => {
+            allow_name(script, Argument::After, asked.after)?;
+            let decision = check(alloc, script, &asked.access, asked.after, out)?;
+            Ok(Outcome::Decided(decision, asked))
+        }
+        Request::Why(asked) => {
+            allow_name(script, Argument::After, asked.after)?;
+            let decision = explain(alloc, script, &asked.access, asked.after, out)?;
+            Ok(Outcome::Explained(decision, asked.is_bare))
+        }
         Request::Audit(asked) => answer_audit(rt, alloc, script, asked, naming, inputs, out),
         Request::LongAudit(asked) => answer_long_audit(
             rt, alloc, script, asked, naming, inputs, out,
         ),
         Request::Policy(asked) => answer_policy(alloc, script, asked, naming, inputs, out),
-        Request::Show(view, after) => answer_show(alloc, script, view, after, out),
-        Request::Writes(accepted) => answer_writes(alloc, script, accepted, out),
-        Request::Lint(accepted) => answer_lint(alloc, script, accepted, out),
+        Request::Show(view, after) => {
+            allow_name(script, Argument::After, after)?;
+            show(alloc, view, script, after, out)?;
+            Ok(Outcome::Listed)
+        }
+        Request::Writes(accepted) => {
+            let summary = writes(alloc, script, accepted.as_bytes(), out)?;
+            Ok(Outcome::Replayed(summary))
+        }
+        Request::Lint(accepted) => {
+            let count = lint(alloc, script, accepted.as_bytes(), out)?;
+            Ok(Outcome::Found(count as u64))
+        }
         Request::Diff(asked) => answer_diff(alloc, script, asked, inputs, out),
         Request::Harts(_) => Err(Failure::from(Refusal::BadFolder)),
         Request::Import(asked) => answer_import(alloc, asked, naming, inputs, out),
         Request::Plan(asked) => answer_plan(alloc, script, asked, inputs, out),
-        Request::PlanOf => answer_plan_of(alloc, script, out),
-        Request::PolicyFrom => answer_policy_from(alloc, script, out),
+        Request::PlanOf => {
+            write_plan_of(alloc, script, out)?;
+            Ok(Outcome::Listed)
+        }
+        Request::PolicyFrom => {
+            policy_from(alloc, script, out)?;
+            Ok(Outcome::Listed)
+        }
     }
 }
 
@@ -103,58 +127,6 @@ fn allow_name(script: &[u8], argument: Argument, after: Option<When>) -> Result<
         Some(When::Labelled(_)) if !has_names(script) => Err(FaultLine::of_word(argument)),
         _ => Ok(()),
     }
-}
-
-/// Decides an access.
-fn answer_check<O: Write>(
-    alloc: Global,
-    script: &[u8],
-    asked: Check,
-    out: &mut O,
-) -> Result<Outcome, Failure>
-    ensures ok { (paths : Paths) → IfOk result (IsWritten (RequestSays paths script.now (request.Check asked))
-        (O.contents out.old) (O.contents out.new)) }
-    ensures err { (paths : Paths) → IfErr result (RequestFails (O.contents out.old) (O.contents out.new) paths
-        script.now (request.Check asked)) }
-{
-    allow_name(script, Argument::After, asked.after)?;
-    let decision = check(alloc, script, &asked.access, asked.after, out)?;
-    Ok(Outcome::Decided(decision, asked))
-}
-
-/// Explains why an access is decided as it is.
-fn answer_why<O: Write>(
-    alloc: Global,
-    script: &[u8],
-    asked: Why,
-    out: &mut O,
-) -> Result<Outcome, Failure>
-    ensures ok { (paths : Paths) → IfOk result (IsWritten (RequestSays paths script.now (request.Why asked))
-        (O.contents out.old) (O.contents out.new)) }
-    ensures err { (paths : Paths) → IfErr result (RequestFails (O.contents out.old) (O.contents out.new) paths
-        script.now (request.Why asked)) }
-{
-    allow_name(script, Argument::After, asked.after)?;
-    let decision = explain(alloc, script, &asked.access, asked.after, out)?;
-    Ok(Outcome::Explained(decision, asked.is_bare))
-}
-
-/// Shows a view of a register file.
-fn answer_show<O: Write>(
-    alloc: Global,
-    script: &[u8],
-    view: View,
-    after: Option<When>,
-    out: &mut O,
-) -> Result<Outcome, Failure>
-    ensures ok { (paths : Paths) → IfOk result (IsWritten (RequestSays paths script.now (request.Show view after))
-        (O.contents out.old) (O.contents out.new)) }
-    ensures err { (paths : Paths) → IfErr result (RequestFails (O.contents out.old) (O.contents out.new) paths
-        script.now (request.Show view after)) }
-{
-    allow_name(script, Argument::After, after)?;
-    show(alloc, view, script, after, out)?;
-    Ok(Outcome::Listed)
 }
 
 /// Audits a trace that is read as a whole.

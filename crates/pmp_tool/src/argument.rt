@@ -72,147 +72,75 @@ pub enum Argument {
 }
 
 impl Argument {
-    /// Returns the id by which `clap` knows it.
+    /// Returns its id, by which `clap` knows it, its name in the help, if it takes a word, and its help text.
     #[tactic(auto, unfolding(crate::specs::Arguments::rule_in))]
-    pub fn id<'a>(self) -> &'a str
-        ensures { result.now ≡ id_of self }
+    fn texts<'a>(self) -> (&'a str, &'a str, &'a str)
+        ensures { result.0.now ≡ id_of self }
     {
         use Argument::*;
         match self {
-            Script | Old | Log | Harts | Plan => "script",
-            New => "new",
-            Trace => "trace",
-            Policy => "policy",
-            Mode => "mode",
-            Kind => "kind",
-            Start => "start",
-            Length => "length",
-            Explain => "explain",
-            Long => "long",
-            EachWrite => "each-write",
-            Strict => "strict",
-            AllBreaches => "all",
-            AsScript => "as-script",
-            After => "after",
-            OldAfter => "old-after",
-            NewAfter => "new-after",
-            Expect => "expect",
-            Only => "only",
-            Locks => "locks",
-            Accept | AcceptReason => "accept",
-            AsFormat => "as-format",
-            Draft => "draft",
-            FirstRow => "first-row",
-            Checkers => "checkers",
-            Jobs => "jobs",
-            Format => "format",
-            Hart => "hart",
-            Xlen => "xlen",
-            Entries => "entries",
-            Grain => "grain",
-            AddressBits => "address-bits",
-            Smepmp => "smepmp",
-            Bursts => "bursts",
-            Names => "names",
-            Folder => "folder",
-            Mml => "mml",
-            Mmwp => "mmwp",
-            Rlb => "rlb",
-            AsArray => "c",
-            Of => "of",
-            From => "from",
-            Keep => "keep",
-            WhileM => "while-m",
+            Script => ("script", "SCRIPT", help::SCRIPT),
+            Old => ("script", "OLD", help::OLD),
+            Log => ("script", "LOG", help::LOG),
+            Harts => ("script", "FOLDER", help::HARTS_OF),
+            Plan => ("script", "PLAN", help::PLAN_PATH),
+            New => ("new", "NEW", help::NEW),
+            Trace => ("trace", "TRACE", help::TRACE),
+            Policy => ("policy", "POLICY", help::POLICY_PATH),
+            Mode => ("mode", "MODE", help::MODE),
+            Kind => ("kind", "KIND", help::KIND),
+            Start => ("start", "START", help::START),
+            Length => ("length", "LENGTH", help::LENGTH),
+            Explain => ("explain", "", help::EXPLAIN),
+            Long => ("long", "", help::LONG),
+            EachWrite => ("each-write", "", help::EACH_WRITE),
+            Strict => ("strict", "", help::STRICT),
+            AllBreaches => ("all", "", help::ALL_BREACHES),
+            AsScript => ("as-script", "", help::AS_SCRIPT),
+            After => ("after", "N", help::AFTER),
+            OldAfter => ("old-after", "N", help::OLD_AFTER),
+            NewAfter => ("new-after", "M", help::NEW_AFTER),
+            Expect => ("expect", "ANSWER", help::EXPECT),
+            Only => ("only", "CHANGE", help::ONLY),
+            Locks => ("locks", "", help::LOCKS),
+            Accept => ("accept", "FINDING", help::ACCEPT),
+            AcceptReason => ("accept", "REASON", help::ACCEPT_REASON),
+            AsFormat => ("as-format", "FORM", help::AS_FORMAT),
+            Draft => ("draft", "", help::DRAFT),
+            FirstRow => ("first-row", "N", help::FIRST_ROW),
+            Checkers => ("checkers", "K", help::CHECKERS),
+            Jobs => ("jobs", "N", help::JOBS),
+            Format => ("format", "FORMAT", help::FORMAT),
+            Hart => ("hart", "N", help::HART),
+            Xlen => ("xlen", "N", help::XLEN),
+            Entries => ("entries", "N", help::HART_ENTRIES),
+            Grain => ("grain", "BYTES", help::GRAIN),
+            AddressBits => ("address-bits", "N", help::ADDRESS_BITS),
+            Smepmp => ("smepmp", "ANSWER", help::SMEPMP),
+            Bursts => ("bursts", "", help::BURSTS),
+            Names => ("names", "FILE", help::NAMES),
+            Folder => ("folder", "FOLDER", help::FOLDER),
+            Mml => ("mml", "", help::MML),
+            Mmwp => ("mmwp", "", help::MMWP),
+            Rlb => ("rlb", "", help::RLB),
+            AsArray => ("c", "", help::AS_ARRAY),
+            Of => ("of", "", help::OF),
+            From => ("from", "SCRIPT", help::FROM),
+            Keep => ("keep", "", help::KEEP),
+            WhileM => ("while-m", "", help::WHILE_M),
         }
     }
 
-    /// Returns its name in the help, if it takes a word.
+    /// Returns the id by which `clap` knows it.
+    pub fn id<'a>(self) -> &'a str
+        ensures { result.now ≡ id_of self }
+    {
+        self.texts().0
+    }
+
+    /// Returns its name in the help, or an empty text if it takes no word.
     pub fn name<'a>(self) -> &'a str {
-        use Argument::*;
-        match self {
-            Script | From => "SCRIPT",
-            Old => "OLD",
-            New => "NEW",
-            Trace => "TRACE",
-            Policy => "POLICY",
-            Mode => "MODE",
-            Kind => "KIND",
-            Start => "START",
-            Length => "LENGTH",
-            Explain | Long | EachWrite | Strict | AllBreaches | AsScript | Locks | Bursts => "",
-            Mml | Mmwp | Rlb | AsArray | Of | Keep | WhileM | Draft => "",
-            After | OldAfter | FirstRow | Jobs | Hart | Xlen | Entries | AddressBits => "N",
-            Grain => "BYTES",
-            Smepmp => "ANSWER",
-            Format => "FORMAT",
-            Log => "LOG",
-            Names => "FILE",
-            Folder | Harts => "FOLDER",
-            Plan => "PLAN",
-            NewAfter => "M",
-            Expect => "ANSWER",
-            Only => "CHANGE",
-            Accept => "FINDING",
-            AcceptReason => "REASON",
-            AsFormat => "FORM",
-            Checkers => "K",
-        }
-    }
-
-    /// Returns its help text.
-    fn help<'a>(self) -> &'a str {
-        use Argument::*;
-        match self {
-            Script => help::SCRIPT,
-            Old => help::OLD,
-            New => help::NEW,
-            Trace => help::TRACE,
-            Policy => help::POLICY_PATH,
-            Mode => help::MODE,
-            Kind => help::KIND,
-            Start => help::START,
-            Length => help::LENGTH,
-            Explain => help::EXPLAIN,
-            Long => help::LONG,
-            EachWrite => help::EACH_WRITE,
-            Strict => help::STRICT,
-            AllBreaches => help::ALL_BREACHES,
-            AsScript => help::AS_SCRIPT,
-            After => help::AFTER,
-            OldAfter => help::OLD_AFTER,
-            NewAfter => help::NEW_AFTER,
-            Expect => help::EXPECT,
-            Only => help::ONLY,
-            Locks => help::LOCKS,
-            Accept => help::ACCEPT,
-            AcceptReason => help::ACCEPT_REASON,
-            AsFormat => help::AS_FORMAT,
-            Draft => help::DRAFT,
-            FirstRow => help::FIRST_ROW,
-            Checkers => help::CHECKERS,
-            Jobs => help::JOBS,
-            Log => help::LOG,
-            Format => help::FORMAT,
-            Hart => help::HART,
-            Xlen => help::XLEN,
-            Entries => help::HART_ENTRIES,
-            Grain => help::GRAIN,
-            AddressBits => help::ADDRESS_BITS,
-            Smepmp => help::SMEPMP,
-            Bursts => help::BURSTS,
-            Names => help::NAMES,
-            Folder => help::FOLDER,
-            Harts => help::HARTS_OF,
-            Plan => help::PLAN_PATH,
-            Mml => help::MML,
-            Mmwp => help::MMWP,
-            Rlb => help::RLB,
-            AsArray => help::AS_ARRAY,
-            Of => help::OF,
-            From => help::FROM,
-            Keep => help::KEEP,
-            WhileM => help::WHILE_M,
-        }
+        self.texts().1
     }
 
     /// Returns how `clap` reads it, with its help text.
@@ -222,57 +150,22 @@ impl Argument {
         ensures local { result.global ≡ false }
     {
         use Argument::*;
-        let (id, name, help) = (self.id(), self.name(), self.help());
+        let (id, name, help) = self.texts();
         match self {
-            Explain
-            | Long
-            | EachWrite
-            | Strict
-            | AllBreaches
-            | Locks
-            | Bursts
-            | Mml
-            | Mmwp
-            | Rlb
-            | AsArray
-            | Of
-            | Keep
-            | WhileM => { flag(alloc, id, help) }
             AsScript => flag(alloc, id, help).long("script"),
             Draft => flag(alloc, id, help).long("from"),
-            After
-            | OldAfter
-            | NewAfter
-            | Expect
-            | Only
-            | Accept
-            | AcceptReason
-            | FirstRow
-            | Hart
-            | Xlen
-            | Entries
-            | Grain
-            | AddressBits
-            | Smepmp
-            | Names
-            | Folder
-            | From => option(alloc, id, name, help),
             AsFormat => option(alloc, id, name, help).long("format"),
             Checkers => count(alloc, id, name, CHECKERS, help),
             Jobs => count(alloc, id, name, JOBS, help),
             Policy => Arg::new(alloc, id).value_name(name).help(help),
-            Script
-            | Old
-            | New
-            | Trace
-            | Mode
-            | Kind
-            | Start
-            | Length
-            | Log
-            | Format
-            | Harts
-            | Plan => { word(alloc, id, name, help) }
+            Script | Old | New | Trace | Log | Harts | Plan => word(alloc, id, name, help),
+            Format | Mode | Kind | Start | Length => word(alloc, id, name, help),
+            Explain | Long | EachWrite | Strict | AllBreaches | Locks => flag(alloc, id, help),
+            Bursts | Mml | Mmwp | Rlb | AsArray | Of | Keep | WhileM => flag(alloc, id, help),
+            After | OldAfter | NewAfter | Expect => option(alloc, id, name, help),
+            Only | Accept | AcceptReason | FirstRow => option(alloc, id, name, help),
+            Hart | Xlen | Entries | Grain | AddressBits => option(alloc, id, name, help),
+            Smepmp | Names | Folder | From => option(alloc, id, name, help),
         }
     }
 

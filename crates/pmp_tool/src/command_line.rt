@@ -69,8 +69,8 @@ fn top<'a>(alloc: Global) -> Built<'a>
 fn command<'a>(alloc: Global, name: CommandName) -> Built<'a>
     ensures { IsBuilt result (command_app name) }
 {
-    let (about, more) = name.texts();
-    let mut command = named(alloc, name.word(), about, more);
+    let (word, about, more) = name.texts();
+    let mut command = named(alloc, word, about, more);
     let arguments = name.arguments();
     for argument in arguments {
         command = command.arg(argument.arg(alloc))?;

@@ -44,46 +44,33 @@ impl CommandName {
         CommandName::Plan,
     ];
 
+    /// Returns the word that names it, its help text of one line, and the one after its arguments.
+    pub fn texts<'a>(self) -> (&'a str, &'a str, &'a str)
+        ensures { result.0.now ≡ command_word self }
+    {
+        match self {
+            CommandName::Check => ("check", help::CHECK, topics::MORE_OF_CHECK),
+            CommandName::Why => ("why", help::WHY, topics::MORE_OF_WHY),
+            CommandName::Audit => ("audit", help::AUDIT, topics::MORE_OF_AUDIT),
+            CommandName::Policy => ("policy", help::POLICY, topics::MORE_OF_POLICY),
+            CommandName::Dump => ("dump", help::DUMP, topics::MORE_OF_DUMP),
+            CommandName::Map => ("map", help::MAP, topics::MORE_OF_MAP),
+            CommandName::Picture => ("picture", help::PICTURE, topics::MORE_OF_PICTURE),
+            CommandName::Entries => ("entries", help::ENTRIES, topics::MORE_OF_ENTRIES),
+            CommandName::Writes => ("writes", help::WRITES, topics::MORE_OF_WRITES),
+            CommandName::Lint => ("lint", help::LINT, topics::MORE_OF_LINT),
+            CommandName::Diff => ("diff", help::DIFF, topics::MORE_OF_DIFF),
+            CommandName::Harts => ("harts", help::HARTS, topics::MORE_OF_HARTS),
+            CommandName::Import => ("import", help::IMPORT, topics::MORE_OF_IMPORT),
+            CommandName::Plan => ("plan", help::PLAN, topics::MORE_OF_PLAN),
+        }
+    }
+
     /// Returns the word that names it.
     pub fn word<'a>(self) -> &'a str
         ensures { result.now ≡ command_word self }
     {
-        match self {
-            CommandName::Check => "check",
-            CommandName::Why => "why",
-            CommandName::Audit => "audit",
-            CommandName::Policy => "policy",
-            CommandName::Dump => "dump",
-            CommandName::Map => "map",
-            CommandName::Picture => "picture",
-            CommandName::Entries => "entries",
-            CommandName::Writes => "writes",
-            CommandName::Lint => "lint",
-            CommandName::Diff => "diff",
-            CommandName::Harts => "harts",
-            CommandName::Import => "import",
-            CommandName::Plan => "plan",
-        }
-    }
-
-    /// Returns its help text of one line, and the one after its arguments.
-    pub fn texts<'a>(self) -> (&'a str, &'a str) {
-        match self {
-            CommandName::Check => (help::CHECK, topics::MORE_OF_CHECK),
-            CommandName::Why => (help::WHY, topics::MORE_OF_WHY),
-            CommandName::Audit => (help::AUDIT, topics::MORE_OF_AUDIT),
-            CommandName::Policy => (help::POLICY, topics::MORE_OF_POLICY),
-            CommandName::Dump => (help::DUMP, topics::MORE_OF_DUMP),
-            CommandName::Map => (help::MAP, topics::MORE_OF_MAP),
-            CommandName::Picture => (help::PICTURE, topics::MORE_OF_PICTURE),
-            CommandName::Entries => (help::ENTRIES, topics::MORE_OF_ENTRIES),
-            CommandName::Writes => (help::WRITES, topics::MORE_OF_WRITES),
-            CommandName::Lint => (help::LINT, topics::MORE_OF_LINT),
-            CommandName::Diff => (help::DIFF, topics::MORE_OF_DIFF),
-            CommandName::Harts => (help::HARTS, topics::MORE_OF_HARTS),
-            CommandName::Import => (help::IMPORT, topics::MORE_OF_IMPORT),
-            CommandName::Plan => (help::PLAN, topics::MORE_OF_PLAN),
-        }
+        self.texts().0
     }
 
     /// Returns its arguments, in the order of the help.

@@ -89,10 +89,13 @@ impl Failure {
     pub fn unread(refusal: InputFault, side: Option<Side>) -> Failure
         ensures { result ≡ unread refusal side }
     {
-        let place = match side {
-            Some(side) => Place::Script(side),
-            None => Place::Nowhere,
-        };
+        Failure::at(refusal, side.map_or(Place::Nowhere, Place::Script))
+    }
+
+    /// Returns a refusal at this place.
+    fn at(refusal: Refusal, place: Place) -> Failure
+        ensures { result ≡ Refused (record { refusal = refusal; place = place }) }
+    {
         Failure::Refused(FaultLine { refusal, place })
     }
 }
@@ -144,10 +147,7 @@ impl From<ImportFault> for Failure {
     ghost from_gives = { λ fault failure. failure ≡ unimported fault };
 
     fn from(fault: ImportFault) -> Failure {
-        Failure::Refused(FaultLine {
-            refusal: fault.kind,
-            place: Place::of_log(fault),
-        })
+        Failure::at(fault.kind, Place::of_log(fault))
     }
 }
 
@@ -156,15 +156,9 @@ impl From<AnswerFault> for Failure {
 
     fn from(fault: AnswerFault) -> Failure {
         match fault {
-            AnswerFault::Text(fault) => Failure::Refused(FaultLine {
-                refusal: fault.kind,
-                place: Place::PlanRow(fault),
-            }),
+            AnswerFault::Text(fault) => Failure::at(fault.kind, Place::PlanRow(fault)),
             AnswerFault::Script(fault) => Failure::from(AuditFault::Script(fault)),
-            AnswerFault::Plan(fault) => Failure::Refused(FaultLine {
-                refusal: fault.refusal(),
-                place: Place::of_plan(fault),
-            }),
+            AnswerFault::Plan(fault) => Failure::at(fault.refusal(), Place::of_plan(fault)),
             AnswerFault::Output => Failure::from(Refusal::Output),
         }
     }
@@ -174,10 +168,7 @@ impl From<NamesFault> for Failure {
     ghost from_gives = { λ fault failure. failure ≡ unnamed fault };
 
     fn from(fault: NamesFault) -> Failure {
-        Failure::Refused(FaultLine {
-            refusal: fault.refusal,
-            place: Place::of_names(fault),
-        })
+        Failure::at(fault.refusal, Place::of_names(fault))
     }
 }
 
@@ -185,9 +176,6 @@ impl From<AuditFault> for Failure {
     ghost from_gives = { λ fault failure. failure ≡ unaudited fault };
 
     fn from(fault: AuditFault) -> Failure {
-        Failure::Refused(FaultLine {
-            refusal: fault.refusal(),
-            place: Place::of(fault),
-        })
+        Failure::at(fault.refusal(), Place::of(fault))
     }
 }

@@ -93,14 +93,14 @@ impl<'a, R: Files + Input + AllocGlobal + Clock + Clone + Drop, E: Write + Drop>
 
     fn script(&mut self, path: &str) -> Result<Vec<u8>, InputFault> {
         self.kept.begin_script(path);
-        let script = read_script_at(self.runtime, path)?;
+        let script = read_at(self.runtime, path, MAX_HEADED_SCRIPT as u64)?;
         self.kept.fill(&script);
         Ok(script)
     }
 
     fn trace(&mut self, path: &str) -> Result<Vec<u8>, InputFault> {
         self.kept.begin(path);
-        let trace = read_trace_at(self.runtime, path)?;
+        let trace = read_at(self.runtime, path, MAX_TRACE as u64)?;
         self.kept.fill(&trace);
         Ok(trace)
     }
@@ -178,26 +178,6 @@ fn files_of<R: Files + AllocGlobal + Clone + Drop>(
 
 fn add_file(alloc: Global, files: &mut Vec<String>, name: &str) -> Result<(), AllocError> {
     Ok(files.push(String::from_str(alloc, name)?)?)
-}
-
-fn read_script_at<R: Files + Input + AllocGlobal>(
-    runtime: &R,
-    path: &str,
-) -> Result<Vec<u8>, InputFault>
-    ensures read { IfOk result (λ bytes. length bytes.items ≤ MAX_HEADED_SCRIPT) }
-    ensures unread { IfErr result (CantBeRead MAX_HEADED_SCRIPT None) }
-{
-    read_at(runtime, path, MAX_HEADED_SCRIPT as u64)
-}
-
-fn read_trace_at<R: Files + Input + AllocGlobal>(
-    runtime: &R,
-    path: &str,
-) -> Result<Vec<u8>, InputFault>
-    ensures read { IfOk result (λ bytes. length bytes.items ≤ MAX_TRACE) }
-    ensures unread { IfErr result (CantBeRead MAX_TRACE None) }
-{
-    read_at(runtime, path, MAX_TRACE as u64)
 }
 
 /// Returns all bytes of the file at the path, or of standard input, which are at most `limit`.

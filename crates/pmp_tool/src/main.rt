@@ -32,7 +32,6 @@ mod progress;
 mod request;
 mod row_format;
 mod run;
-mod script_answers;
 mod topics;
 mod trace_input;
 mod word;

@@ -1,4 +1,4 @@
-//! The program's answers to a plan, or to a script whose plan is asked for.
+//! The program's answer to a plan.
 
 ghost use Rattle.std.specs.Prelude.{◌≡◌, IfErr, IfOk};
 ghost use Rattle.pmp_audit.specs.Answers.{IsWritten};
@@ -13,7 +13,7 @@ use crate::inputs::Inputs;
 use crate::outcome::Outcome;
 use crate::request::Plan;
 use pmp_core::{Hart, RegFile};
-use pmp_plan::{registers_after, write_plan, write_plan_of};
+use pmp_plan::{registers_after, write_plan};
 use pmp_text::Refusal;
 use std::alloc::Global;
 use std::io::Write;
@@ -50,20 +50,5 @@ pub fn answer_plan<I: Inputs, O: Write>(
 {
     let start = start_of(alloc, asked, inputs)?;
     write_plan(alloc, &start, asked.aim, asked.form, plan, out)?;
-    Ok(Outcome::Listed)
-}
-
-/// Writes the plan that a script's registers implement.
-pub fn answer_plan_of<O: Write>(
-    alloc: Global,
-    script: &[u8],
-    out: &mut O,
-) -> Result<Outcome, Failure>
-    ensures ok { (paths : Paths) → IfOk result (IsWritten (RequestSays paths script.now request.PlanOf)
-        (O.contents out.old) (O.contents out.new)) }
-    ensures err { (paths : Paths) → IfErr result (RequestFails (O.contents out.old) (O.contents out.new) paths
-        script.now request.PlanOf) }
-{
-    write_plan_of(alloc, script, out)?;
     Ok(Outcome::Listed)
 }

@@ -8,23 +8,8 @@ ghost use Rattle.pmp_tool.specs.Failures.{failure_status};
 ghost use Rattle.pmp_tool.specs.Notes.{Notes};
 ghost use Rattle.pmp_tool.specs.CommandAnswers.{outcome_status};
 ghost use Rattle.clap.specs.Words.{subcommand_rows_of};
-ghost use Rattle.pmp_tool.specs.Runs.{
-  Answers,
-  Does,
-  DoesAt,
-  DoesIn,
-  DoesNoRows,
-  DoesNot,
-  DoesNotAt,
-  DoesNotIn,
-  DoesRows,
-  Done,
-  DoneBy,
-  Fails,
-  TextFails,
-  Undone,
-};
-ghost use Rattle.pmp_tool.specs.Runs.{UndoneBy};
+ghost use Rattle.pmp_tool.specs.Runs.{Answers, Does, DoesAt, DoesNoRows, DoesNot, DoesNotAt, DoesRows, Done, Fails};
+ghost use Rattle.pmp_tool.specs.Runs.{TextFails, Undone};
 ghost use Rattle.pmp_tool.specs.declared.failure.Failure.{Failure};
 ghost use Rattle.pmp_tool.specs.declared.outcome.Outcome.{Outcome};
 ghost use Rattle.pmp_tool.specs.declared.outcome.Outcome.TheVariants.{Told};
@@ -42,7 +27,6 @@ use crate::inputs::Inputs;
 use crate::naming::Naming;
 use crate::note::tell_note;
 use crate::outcome::Outcome;
-use crate::row_format::AskedFormat;
 use clap::ArgMatches;
 use pmp_names::read_names;
 use pmp_text::write_out;
@@ -118,7 +102,7 @@ fn run<R: Threads + Wait + Sync, I: Inputs, O: Write>(
     }
 }
 
-/// Answers the matches that `clap` found in the words.
+/// Answers the matches that `clap` found in the words. Rows that are to have another form are kept in memory first.
 fn answer_words<R: Threads + Wait + Sync, I: Inputs, O: Write>(
     rt: &R,
     alloc: Global,
@@ -131,26 +115,9 @@ fn answer_words<R: Threads + Wait + Sync, I: Inputs, O: Write>(
     ensures err { IfErr result (DoesNot (subcommand_rows_of matches.now) (I.paths inputs.old) (O.contents out.old)
         (O.contents out.new)) }
 {
-    match asked_format(matches)? {
-        None => answer_rows(rt, alloc, matches, inputs, out),
-        Some(format) => answer_formed(rt, alloc, matches, format, inputs, out),
-    }
-}
-
-/// Answers them in memory, and writes the rows in another form.
-fn answer_formed<R: Threads + Wait + Sync, I: Inputs, O: Write>(
-    rt: &R,
-    alloc: Global,
-    matches: &ArgMatches<'_>,
-    format: AskedFormat<'_>,
-    inputs: &mut I,
-    out: &mut O,
-) -> Result<Outcome, Failure>
-    ensures ok { IfOk result (DoesIn (subcommand_rows_of matches.now) (I.paths inputs.old) (O.contents out.old)
-        (O.contents out.new) (Some format.entry) (I.paths inputs.new)) }
-    ensures err { IfErr result (DoesNotIn (subcommand_rows_of matches.now) (I.paths inputs.old) (O.contents out.old)
-        (O.contents out.new) (Some format.entry)) }
-{
+    let Some(format) = asked_format(matches)? else {
+        return answer_rows(rt, alloc, matches, inputs, out);
+    };
     let mut rows = Vec::new(alloc);
     match answer_rows(rt, alloc, matches, inputs, &mut rows) {
         Ok(outcome) => {
@@ -175,27 +142,11 @@ fn answer_rows<R: Threads + Wait + Sync, I: Inputs, O: Write>(
     ensures err { IfErr result (DoesNoRows (subcommand_rows_of matches.now) (I.paths inputs.old) (O.contents out.old)
         (O.contents out.new)) }
 {
-    match names_path(matches)? {
-        None => answer_without(rt, alloc, matches, inputs, out),
-        Some(path) => answer_with(rt, alloc, matches, path, inputs, out),
-    }
-}
-
-/// Answers it without names of addresses.
-fn answer_without<R: Threads + Wait + Sync, I: Inputs, O: Write>(
-    rt: &R,
-    alloc: Global,
-    matches: &ArgMatches<'_>,
-    inputs: &mut I,
-    out: &mut O,
-) -> Result<Outcome, Failure>
-    ensures ok { IfOk result (DoesAt (subcommand_rows_of matches.now) (I.paths inputs.old) (O.contents out.old)
-        (O.contents out.new) None (I.paths inputs.new)) }
-    ensures err { IfErr result (DoesNotAt (subcommand_rows_of matches.now) (I.paths inputs.old) (O.contents out.old)
-        (O.contents out.new) None) }
-{
-    let command = read_command(matches, &[])?;
-    answer_all(rt, alloc, command, None, inputs, out)
+    let Some(path) = names_path(matches)? else {
+        let command = read_command(matches, &[])?;
+        return answer_command(rt, alloc, command, None, inputs, out);
+    };
+    answer_with(rt, alloc, matches, path, inputs, out)
 }
 
 /// Answers it with the names of addresses in the text at this path.
@@ -217,11 +168,11 @@ fn answer_with<R: Threads + Wait + Sync, I: Inputs, O: Write>(
     inputs.forget();
     let command = read_command(matches, &names)?;
     let naming = Naming::of(&names, command.request);
-    answer_all(rt, alloc, command, Some(naming), inputs, out)
+    answer_command(rt, alloc, command, Some(naming), inputs, out)
 }
 
-/// Answers a command.
-fn answer_all<R: Threads + Wait + Sync, I: Inputs, O: Write>(
+/// Answers a command: for the hart of its script, or for each hart if a folder is given instead of a script.
+fn answer_command<R: Threads + Wait + Sync, I: Inputs, O: Write>(
     rt: &R,
     alloc: Global,
     command: Command<'_>,
@@ -237,24 +188,6 @@ fn answer_all<R: Threads + Wait + Sync, I: Inputs, O: Write>(
     if let Some((import, folder)) = new_folder(command.request) {
         return import_harts(rt, alloc, command, import, folder, inputs);
     }
-    answer_by(rt, alloc, command, naming, inputs, out)
-}
-
-/// Answers a command: for the hart of its script, or for each hart if a folder is given instead of a script.
-fn answer_by<R: Threads + Wait + Sync, I: Inputs, O: Write>(
-    rt: &R,
-    alloc: Global,
-    command: Command<'_>,
-    naming: Option<Naming<'_>>,
-    inputs: &mut I,
-    out: &mut O,
-) -> Result<Outcome, Failure>
-    ensures ok { IfOk result (DoneBy (I.paths inputs.old) command.entry (O.contents out.old) (O.contents out.new)
-        naming.entry) }
-    ensures err { IfErr result (UndoneBy (I.paths inputs.old) command.entry (O.contents out.old) (O.contents out.new)
-        naming.entry) }
-    ensures paths { I.paths inputs.new ≡ I.paths inputs.old }
-{
     match Harts::find(alloc, command, inputs)? {
         None => answer_one(rt, alloc, command, naming, inputs, out),
         Some(harts) => answer_folder(rt, alloc, command, naming, harts, inputs, out),

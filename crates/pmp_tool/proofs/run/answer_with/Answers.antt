@@ -32,7 +32,7 @@ pub returns-clause-ok : goal.returns-clause-ok
 returns-clause-ok g c =
     let text = c.in_ok-text in
     let forgot = c.forget.ensures in
-    IfOk-weaker c.answer_all.result _ _
+    IfOk-weaker c.answer_command.result _ _
     (λ outcome done. record {
       command = c.in_ok-command.command;
       naming = Some c.of-naming.result;
@@ -44,13 +44,13 @@ returns-clause-ok g c =
       };
       done = done;
     })
-    (rw (forgot.paths, text.ensures.paths) at c.answer_all.ensures.ok)
+    (rw (forgot.paths, text.ensures.paths) at c.answer_command.ensures.ok)
 
 pub returns-clause-err : goal.returns-clause-err
 returns-clause-err g c =
     let text = c.in_ok-text in
     let forgot = c.forget.ensures in
-    IfErr-weaker c.answer_all.result _ _
+    IfErr-weaker c.answer_command.result _ _
     (λ failure fails. undone c.in_ok-command.command (Some c.of-naming.result) failure
     (record {
       names = map named c.in_ok-names.names.items;
@@ -58,4 +58,4 @@ returns-clause-err g c =
       asks = sym (rw c.deref-2.ensures.value at c.in_ok-command.ensures);
       rows = rw c.deref-3.ensures.value at c.of-naming.ensures;
     }) fails)
-    (rw (forgot.paths, text.ensures.paths) at c.answer_all.ensures.err)
+    (rw (forgot.paths, text.ensures.paths) at c.answer_command.ensures.err)
