@@ -1,16 +1,18 @@
-# make                      proves and builds the program, where that isn't done; JOBS=4 does so by four processes,
-#                           which takes less time and more work
+# make                      proves and builds the program, where that isn't done, by a process for each processor, or JOBS=1
+#                           by one; KEEP=no keeps nothing of what only makes a next proof shorter, 2 GB for a large crate
 # make library              proves and builds the C library, where that isn't done; TARGET=aarch64-unknown-linux-gnu does
 #                           so for that processor, in out/TARGET
 # make portable             writes the C library as one file for any 64-bit compiler, out/portable/tilvenka_pmp.c
 # make install PREFIX=..    puts what a release has below PREFIX, as release/files lists it; install-program and
-#                           install-library put a part
+#                           install-library put a part. Without rt it is what is prebuilt
 # make uninstall PREFIX=..  takes it away
 # make dist                 writes a release of what is built to dist/, with the page and the one file where they are made;
 #                           TARGET= as above, of the library alone
 # make dist-test            makes one, and wants each tool that its check asks for
 # make page                 builds the page for a browser, web/out/pmp.html, and its module
 # make page-test            compares in headless Chromium what it answers and shows with what the program answers
+# make prebuilt             puts what make, make page and make portable built into prebuilt/
+# make costs                writes release/costs as the last make that proved all from nothing took it
 # make docs                 writes what the help and the man page have of docs/FORMATS.md, and where a limit or a refusal is
 #                           told
 # make soak SECONDS=..      lets a publisher and eight checkers run so long, and compares each answer with a replay
@@ -36,8 +38,8 @@ export PREFIX DESTDIR
 # ci has one process for each, which is less work than several for one.
 LANES = $(shell awk -v most="$$(nproc)" '/^MemAvailable/ { n = int($$2 / 3500000); print n < 1 ? 1 : n < most ? n : most }' /proc/meminfo)
 
-.PHONY: build library portable page page-test docs test fuzz conformance reports mutants rv32 captures qemu install install-program install-library uninstall dist \
-    dist-test soak stress bench bench-decide bench-emulator bench-threads bench-limits bench-audit bench-page bench-qemu
+.PHONY: build library portable page page-test prebuilt costs docs test fuzz conformance reports mutants rv32 captures qemu \
+    install install-program install-library uninstall dist dist-test soak stress bench bench-decide bench-emulator bench-threads bench-limits bench-audit bench-page bench-qemu
 
 build:
 	@release/build program
@@ -52,12 +54,18 @@ portable:
 page:
 	@web/module
 	@web/build
-	@release/build --note page web/build "$$(release/build --sources)"
+	@release/build --note page web/build "$$(release/build --sources page)"
 
 page-test:
 	@command -v chromium >/dev/null || { echo "there is no chromium; Debian's package is chromium" >&2; exit 2; }
 	@$(MAKE) build page
 	checks/page $(PROGRAM)
+
+prebuilt: build page portable
+	@release/prebuilt
+
+costs:
+	@release/prove --costs
 
 docs:
 	@release/documents
@@ -66,7 +74,7 @@ docs:
 # stand in their places, and the program that it leaves is noted as of the sources from before.
 # checks/all runs the parts and adds up what they tell. They say make, since by $(MAKE) make -n would run them too.
 test:
-	@rm -rf crates/*/out/rlib && mkdir -p out && release/build --sources >out/proving
+	@rm -rf crates/*/out/rlib && mkdir -p out && release/build --sources program >out/proving
 	@checks/all 'RT_JOBS=$(LANES) rt ci' \
 	    '$(PROVED) && RT=$(CURDIR)/checks/over-proved make library && LANES=$(LANES) checks/wrong-bodies --proved' \
 	    'checks/library $(LIBRARY)' \
@@ -122,14 +130,14 @@ rv32: build
 qemu: library
 	@integrations/qemu/try $(or $(VERSION),10.0)
 
-install: build library
-	@release/install program library
+install:
+	@parts=$$(release/ready program library) && release/install $$parts
 
-install-program: build
-	@release/install program
+install-program:
+	@parts=$$(release/ready program) && release/install $$parts
 
-install-library: library
-	@release/install library
+install-library:
+	@parts=$$(release/ready library) && release/install $$parts
 
 uninstall:
 	@release/install --remove

@@ -48,6 +48,12 @@ passed_over_whole() {
     exit 0
 }
 
+# links_by COMPILER: the compiler is there, with the C library that it links a program with.
+links_by() {
+    echo '#include <stdio.h>
+int main(void) { return puts("") < 0; }' | "$1" -x c - -static -o "$work/linked" >/dev/null 2>&1
+}
+
 # samples PAGE: each command of pmp that the page shows with its first line, as two lines: in a row of a table, or after
 # a dollar sign, where the line below is the first one.
 samples() {
