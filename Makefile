@@ -34,9 +34,10 @@ STRESS = crates/pmp_stress/out/pmp_stress
 LIBRARY = crates/pmp_c/out/libpmp_c.a
 export PREFIX DESTDIR
 
-# How many checks run side by side: one a processor, as far as memory goes, since each takes up to 3.5 GB. Given so, rt
-# ci has one process for each, which is less work than several for one.
-LANES = $(shell awk -v most="$$(nproc)" '/^MemAvailable/ { n = int($$2 / 3500000); print n < 1 ? 1 : n < most ? n : most }' /proc/meminfo)
+# How many checks run side by side: one a processor, as far as memory goes, since each may take what the dearest crate
+# does. Given so, rt ci has one process for each, which is less work than several for one.
+LANES = $(shell awk -v most="$$(nproc)" 'NR == FNR { if ($$4 + 0 > needs) needs = $$4 + 0; next } \
+    /^MemAvailable/ { n = int($$2 / 1024 / needs); print n < 1 ? 1 : n < most ? n : most }' release/costs /proc/meminfo)
 
 .PHONY: build library portable page page-test prebuilt costs docs test fuzz conformance reports mutants rv32 captures qemu \
     install install-program install-library uninstall dist dist-test soak stress bench bench-decide bench-emulator bench-threads bench-limits bench-audit bench-page bench-qemu
@@ -76,11 +77,11 @@ docs:
 test:
 	@rm -rf crates/*/out/rlib && mkdir -p out && release/build --sources program >out/proving
 	@checks/all 'RT_JOBS=$(LANES) rt ci' \
-	    '$(PROVED) && RT=$(CURDIR)/checks/over-proved make library && LANES=$(LANES) checks/wrong-bodies --proved' \
-	    'checks/library $(LIBRARY)' \
+	    '$(PROVED) && RT=$(CURDIR)/checks/over-proved make library && checks/library $(LIBRARY)' \
+	    '& LANES=$(LANES) checks/wrong-bodies --proved' \
 	    'RT=$(CURDIR)/checks/over-proved checks/cross' \
 	    'RT=$(CURDIR)/checks/over-proved checks/portable' \
-	    'if command -v chromium; then RT=$(CURDIR)/checks/over-proved make page; fi && checks/page $(PROGRAM)' \
+	    'RT=$(CURDIR)/checks/over-proved make page && checks/page $(PROGRAM)' \
 	    checks/release \
 	    'checks/worked $(PROGRAM)' \
 	    'checks/worked --tried' \
@@ -98,7 +99,8 @@ test:
 	    'checks/rv32 $(PROGRAM)' \
 	    'checks/growths $(STRESS)' \
 	    'checks/plans --plans 200 $(PROGRAM)' \
-	    'checks/orders --pairs 60 --most 3000 $(PROGRAM)'
+	    'checks/orders --pairs 60 --most 3000 $(PROGRAM)' \
+	    checks/prebuilt
 
 # Notes that rt ci has proved the program.
 PROVED = release/build --note program "rt ci" "$$(cat out/proving)" && rm out/proving
