@@ -48,6 +48,21 @@ passed_over_whole() {
     exit 0
 }
 
+# kitless: the folders of the path that have no rt.
+kitless() {
+    echo "$PATH" | tr : '\n' | while read -r folder; do [ -e "$folder/rt" ] || echo "$folder"; done | paste -sd:
+}
+
+# sources_in FOLDER: puts what make needs there, and none of what it makes.
+sources_in() {
+    for crate in crates/*; do
+        mkdir -p "$1/$crate" || return 1
+        for part in src specs proofs; do [ ! -d "$crate/$part" ] || cp -r "$crate/$part" "$1/$crate"; done
+    done
+    cp -r pmp Makefile VERSION LICENSE-* NOTICE ./*.md crates.txt release include docs bindings completions examples conformance \
+        integrations bench portable prebuilt "$1"
+}
+
 # links_by COMPILER: the compiler is there, with the C library that it links a program with.
 links_by() {
     echo '#include <stdio.h>
