@@ -1,5 +1,5 @@
 # make                      proves and builds the program, where that isn't done, by a process for each processor, or JOBS=1
-#                           by one; KEEP=no keeps nothing of what only makes a next proof shorter, 2 GB for a large crate
+#                           by one; KEEP=no keeps nothing of what only makes the next proof shorter
 # make library              proves and builds the C library, where that isn't done; TARGET=aarch64-unknown-linux-gnu does
 #                           so for that processor, in out/TARGET
 # make portable             writes the C library as one file for any 64-bit compiler, out/portable/tilvenka_pmp.c
@@ -36,9 +36,12 @@ export PREFIX DESTDIR
 
 # How many checks run side by side: one a processor, as far as memory goes, since each may take what the dearest crate
 # does. Given so, rt ci has one process for each, which is less work than several for one.
-LANES = $(shell awk -v most="$$(nproc)" 'NR == FNR { if ($$4 + 0 > needs) needs = $$4 + 0; next } \
+LANES = $(shell awk -v most="$$(nproc)" 'NR == FNR { if (/^pmp_/ && $$4 + 0 > needs) needs = $$4 + 0; next } \
     /^MemAvailable/ { n = int($$2 / 1024 / needs); print n < 1 ? 1 : n < most ? n : most }' release/costs /proc/meminfo)
+# How many where something else runs beside them.
+FEWER = $(shell n=$(LANES); echo $$((n > 1 ? n - 1 : 1)))
 
+.NOTPARALLEL:
 .PHONY: build library portable page page-test prebuilt costs docs test fuzz conformance reports mutants rv32 captures qemu \
     install install-program install-library uninstall dist dist-test soak stress bench bench-decide bench-emulator bench-threads bench-limits bench-audit bench-page bench-qemu
 
@@ -54,8 +57,7 @@ portable:
 
 page:
 	@web/module
-	@web/build
-	@release/build --note page web/build "$$(release/build --sources page)"
+	@sources=$$(release/build --sources page) && web/build && release/build --note page web/build "$$sources"
 
 page-test:
 	@command -v chromium >/dev/null || { echo "there is no chromium; Debian's package is chromium" >&2; exit 2; }
@@ -73,15 +75,16 @@ docs:
 
 # rt ci proves and builds all from nothing. What comes after it goes over the libraries that it leaves, so no others may
 # stand in their places, and the program that it leaves is noted as of the sources from before.
-# checks/all runs the parts and adds up what they tell. They say make, since by $(MAKE) make -n would run them too.
+# checks/all runs the parts and adds up what they tell. They say make, since by $(MAKE) make -n would run them too. Wrong
+# bodies begin over the work that rt keeps of each crate, once no other part proves in the same folders.
 test:
-	@rm -rf crates/*/out/rlib && mkdir -p out && release/build --sources program >out/proving
+	@rm -rf crates/*/out/rlib out/rooms && mkdir -p out && release/build --sources program >out/proving
 	@checks/all 'RT_JOBS=$(LANES) rt ci' \
 	    '$(PROVED) && RT=$(CURDIR)/checks/over-proved make library && checks/library $(LIBRARY)' \
-	    '& LANES=$(LANES) checks/wrong-bodies --proved' \
 	    'RT=$(CURDIR)/checks/over-proved checks/cross' \
 	    'RT=$(CURDIR)/checks/over-proved checks/portable' \
 	    'RT=$(CURDIR)/checks/over-proved make page && checks/page $(PROGRAM)' \
+	    '& LANES=$(FEWER) checks/wrong-bodies --proved' \
 	    checks/release \
 	    'checks/worked $(PROGRAM)' \
 	    'checks/worked --tried' \

@@ -63,10 +63,10 @@ sources_in() {
         integrations bench portable prebuilt "$1"
 }
 
-# links_by COMPILER: the compiler is there, with the C library that it links a program with.
+# links_by COMPILER WORD..: the compiler is there, with the libraries that it links a program with by these words.
 links_by() {
     echo '#include <stdio.h>
-int main(void) { return puts("") < 0; }' | "$1" -x c - -static -o "$work/linked" >/dev/null 2>&1
+int main(void) { return puts("") < 0; }' | "$@" -x c - -o "$work/linked" >/dev/null 2>&1
 }
 
 # samples PAGE: each command of pmp that the page shows with its first line, as two lines: in a row of a table, or after
