@@ -69,6 +69,11 @@ links_by() {
 int main(void) { return puts("") < 0; }' | "$@" -x c - -o "$work/linked" >/dev/null 2>&1
 }
 
+# needs_cc WHAT: where no C compiler makes programs, what this check tries is told as passed over, and it ends.
+needs_cc() {
+    links_by ${CC:-cc} || passed_over_whole "$1" 'gcc and libc6-dev'
+}
+
 # samples PAGE: each command of pmp that the page shows with its first line, as two lines: in a row of a table, or after
 # a dollar sign, where the line below is the first one.
 samples() {
