@@ -60,7 +60,7 @@ sources_in() {
         for part in src specs proofs; do [ ! -d "$crate/$part" ] || cp -r "$crate/$part" "$1/$crate"; done
     done
     cp -r pmp Makefile VERSION LICENSE-* NOTICE ./*.md crates.txt release include docs bindings completions examples conformance \
-        integrations bench portable prebuilt "$1"
+        integrations bench portable prebuilt web "$1" && rm -rf "$1/web/out"
 }
 
 # links_by COMPILER WORD..: the compiler is there, with the libraries that it links a program with by these words.
