@@ -4,10 +4,10 @@ use Rattle.std.proofs.Common.{length, take, drop, refl, ap, arith}
 use Rattle.std.specs.Prelude.{Any}
 use Rattle.std.specs.List.{AllWithin, HoldsAt}
 use Rattle.std.proofs.lemmas.Bool.Decides.{nat_tests}
-use Rattle.pmp_text.specs.declared.trace.Row.{Row}
+use Rattle.pmp_text.specs.declared.trace.TraceRow.{TraceRow}
 use Rattle.pmp_audit.specs.Rounds.{asking}
 
-pub asking_is : (after : ℕ) (rows : List Row) (count : ℕ)
+pub asking_is : (after : ℕ) (rows : List TraceRow) (count : ℕ)
     → count ≤ length rows → AllWithin (λ row. row.after ≡ after) rows 0 count
     → (count < length rows → HoldsAt (λ row. row.after ≢ after) rows count) → take count rows ≡ asking after rows
 asking_is after [] zero within before at = refl
@@ -37,13 +37,13 @@ same_by left right true test is_not = grind (arith, nat_tests)
 same_by left right false test is_not = absurd (is_not refl)
 
 -- where a row is at the front that asks for just so many publications, some row does
-first_asks : (after : ℕ) (rows : List Row) → (asking after rows ≡ [] → ⊥) → Any (λ row. row.after ≡ after) rows
+first_asks : (after : ℕ) (rows : List TraceRow) → (asking after rows ≡ [] → ⊥) → Any (λ row. row.after ≡ after) rows
 first_asks after [] some = absurd (some refl)
 first_asks after (row ∷ rows) some =
     let same = same_by row.after after (row.after == after) refl (λ (test : (row.after == after) ≡ false).
     some (rw test refl)) in
     (0, row, omega arith, refl, same)
 
-pub some_asks : (after count : ℕ) (rows : List Row) → (asking after (drop count rows) ≡ [] → ⊥)
+pub some_asks : (after count : ℕ) (rows : List TraceRow) → (asking after (drop count rows) ≡ [] → ⊥)
     → Any (λ row. row.after ≡ after) rows
 some_asks after count rows some = any_dropped _ count rows (first_asks after (drop count rows) some)

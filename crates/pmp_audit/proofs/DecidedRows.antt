@@ -19,7 +19,7 @@ use Rattle.pmp_core.proofs.Legal.{legal_addresses, replay_legal_from}
 use Rattle.pmp_share.specs.declared.room.TheConstants.{HISTORY_LIMIT}
 use Rattle.pmp_share.specs.Batches.{Batches, event_count, file_from}
 use Rattle.pmp_share.specs.Room.{has_room}
-use Rattle.pmp_text.specs.declared.trace.Row.{Row}
+use Rattle.pmp_text.specs.declared.trace.TraceRow.{TraceRow}
 use Rattle.pmp_text.specs.Contents.{ScriptContents}
 use Rattle.pmp_text.specs.Reports.{AreDecided, file_of_script}
 use Rattle.pmp_text.specs.Sizes.{IsInLimits}
@@ -29,17 +29,17 @@ use Rattle.pmp_audit.specs.Rounds.{AreDecidedSoFar, asking, decision_for}
 use Rattle.pmp_audit.specs.Working.{decided_in}
 
 module _ (script : ScriptContents) where
-  abbrev Ordered : ℕ → List Row → Type 0
+  abbrev Ordered : ℕ → List TraceRow → Type 0
   Ordered least rows = IsInOrder (length script.batches) least (afters (map row_fields rows))
 
   -- these rows are at the front of those that are left, and ask for just so many publications
-  record AreAsked (after : ℕ) (left front : List Row) : Type 0 where
+  record AreAsked (after : ℕ) (left front : List TraceRow) : Type 0 where
     within : length front ≤ length left
     is : front ≡ take (length front) left
     decisions : decided_in (file_of_script script after) front ≡ map (decision_for script) front
     order : Ordered (after + 1) (drop (length front) left)
 
-  module _ (after : ℕ) (row : Row) (more : List Row) (order : Ordered after (row ∷ more))
+  module _ (after : ℕ) (row : TraceRow) (more : List TraceRow) (order : Ordered after (row ∷ more))
       (rest : Ordered after more → AreAsked after more (asking after more)) where
     first_asked : row.after ≡ after → AreAsked after (row ∷ more) (row ∷ asking after more)
     first_asked same =
@@ -48,7 +48,7 @@ module _ (script : ScriptContents) where
         ap (λ (n : ℕ). decision_of (file_of_script script n) row.access) (sym same) in
         record {
           within = let w = asked.within in omega arith;
-          is = ap (λ (l : List Row). row ∷ l) asked.is;
+          is = ap (λ (l : List TraceRow). row ∷ l) asked.is;
           decisions = cc (decided, asked.decisions);
           order = asked.order;
         }
@@ -66,11 +66,11 @@ module _ (script : ScriptContents) where
     asked_row true is = first_asked (grind (arith, nat_tests))
     asked_row false is = none_asked (let least = order.0 in grind (arith, nat_tests))
 
-  asked : (after : ℕ) (left : List Row) → Ordered after left → AreAsked after left (asking after left)
+  asked : (after : ℕ) (left : List TraceRow) → Ordered after left → AreAsked after left (asking after left)
   asked after [] order = record { within = omega arith; is = refl; decisions = refl; order = tt }
   asked after (row ∷ more) order = asked_row after row more order (asked after more) (row.after == after) refl
 
-  module _ (rows : List Row) where
+  module _ (rows : List TraceRow) where
     pub none_decided : Ordered 0 rows → AreDecidedSoFar script rows 0 []
     none_decided order = record { within = omega arith; decisions = refl; order = order }
 
@@ -94,7 +94,7 @@ module _ (script : ScriptContents) where
         ap (λ (l : List Decision). length l) now ∙ length-append decided (map f front)
         ∙ ap (λ (k : ℕ). n + k) (length-map front f) in
         let whole : take (n + m) rows ≡ take n rows ++ front =
-        take-add n m rows ∙ ap (λ (l : List Row). take n rows ++ l) (sym next.is) in
+        take-add n m rows ∙ ap (λ (l : List TraceRow). take n rows ++ l) (sym next.is) in
         record {
           within = let w = next.within in let o = so_far.within in omega (arith, length-drop n rows, many);
           decisions = now ∙ ap (λ (l : List Decision). l ++ map f front) so_far.decisions
@@ -103,7 +103,7 @@ module _ (script : ScriptContents) where
           order = subst (Ordered (after + 1)) (drop-drop m n rows ∙ ap (λ (k : ℕ). drop k rows) (sym many)) next.order;
         }
 
-    none_left : (left : List Row) → Ordered (length script.batches + 1) left → left ≡ []
+    none_left : (left : List TraceRow) → Ordered (length script.batches + 1) left → left ≡ []
     none_left [] order = refl
     none_left (row ∷ left) order = absurd (omega (arith, order.0, order.1))
 
@@ -112,7 +112,7 @@ module _ (script : ScriptContents) where
     all_decided after decided last so_far =
         let none : drop (length decided) rows ≡ [] = none_left (drop (length decided) rows) (rw last at so_far.order) in
         let left : length rows ≤ length decided =
-        let nil = ap (λ (l : List Row). length l) none in omega (arith, length-drop (length decided) rows) in
+        let nil = ap (λ (l : List TraceRow). length l) none in omega (arith, length-drop (length decided) rows) in
         so_far.decisions ∙ ap (map (decision_for script)) (take_all (length decided) rows left)
 
   -- ---- a script's publications have room
@@ -139,7 +139,7 @@ abbrev pub ByRanges : Type 0
 ByRanges = (file : RegisterFile) (access : Access) → HasAddresses file
     → IsDecision file access (decision_of file access)
 
-pub are_decided : ByRanges → (script : ScriptContents) → IsLegal script.start → (rows : List Row)
+pub are_decided : ByRanges → (script : ScriptContents) → IsLegal script.start → (rows : List TraceRow)
     → AreDecided script rows (map (decision_for script) rows)
 are_decided by_ranges script legal [] = tt
 are_decided by_ranges script legal (row ∷ rows) = (

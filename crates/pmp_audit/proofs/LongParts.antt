@@ -15,7 +15,7 @@ use Rattle.pmp_text.specs.LongTraces.{Records, place_behind}
 use Rattle.pmp_text.specs.Tables.{is_line_end, records_of}
 use Rattle.pmp_text.proofs.PieceFaults.{apart, places_in_turn}
 use Rattle.pmp_text.specs.Moments.{moments_in}
-use Rattle.pmp_audit.specs.declared.fault.AuditFault.{AuditFault}
+use Rattle.pmp_audit.specs.declared.fault.ReportFault.{ReportFault}
 use Rattle.pmp_audit.specs.declared.piece.PieceReport.{PieceReport}
 use Rattle.pmp_audit.specs.declared.standing.Standing.{Standing}
 use Rattle.pmp_audit.specs.LongParts.{AreJoined, IsBoth, items_of}
@@ -79,7 +79,7 @@ module _ (script : ScriptContents) (standing middle : Standing)
     (fresh : middle ≡ record { place = record middle.place { bare = None }; faults = 0 }) (text low high : List ℕ)
     (end : ℕ) (inside : end < length text) (ends : is_line_end (get_or text end 0) ≡ true)
     (low_is : low ≡ take (end + 1) text) (high_is : high ≡ drop end text) (both : PieceReport) where
-  pub parts_reported : (front back : Result PieceReport AuditFault)
+  pub parts_reported : (front back : Result PieceReport ReportFault)
       → IfOk front (IsPieceReported script (records_of low) standing)
       → IfOk back (IsPieceReported script (records_of high) middle) → AreJoined front middle back both
       → IsPieceReported script (records_of text) standing both

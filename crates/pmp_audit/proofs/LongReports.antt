@@ -3,12 +3,12 @@ use Rattle.std.proofs.Common.{◌≡◌, ℕ, suc, get_or, ◌+◌, ◌<◌, Lis
 use Rattle.std.proofs.Common.{length, take, sym, ap, ◌∙◌, append_assoc, append-nil, arith}
 use Rattle.std.proofs.lemmas.List.{length-take-le, take_more}
 use Rattle.pmp_core.specs.declared.decision.Decision.{Decision}
-use Rattle.pmp_text.specs.declared.trace.Row.{Row}
+use Rattle.pmp_text.specs.declared.trace.TraceRow.{TraceRow}
 use Rattle.pmp_text.specs.LongTraces.{report_text_from}
 use Rattle.pmp_text.specs.Reports.{report_row}
 
 -- a report behind another one goes on with its numbers
-pub report_goes_on : (rows more : List Row) (decisions others : List Decision) (first : ℕ)
+pub report_goes_on : (rows more : List TraceRow) (decisions others : List Decision) (first : ℕ)
     → length decisions ≡ length rows
     → report_text_from first (rows ++ more) (decisions ++ others)
     ≡ report_text_from first rows decisions ++ report_text_from (first + length rows) more others
@@ -27,7 +27,7 @@ report_goes_on (row ∷ rows) more (decision ∷ decisions) others first same =
     ∙ ap (λ (n : ℕ). (line ++ report_text_from (first + 1) rows decisions) ++ report_text_from n more others) number
 
 -- one row more
-pub one_listed : (rows : List Row) (decisions : List Decision) (place : ℕ) (row : Row) (other : Decision)
+pub one_listed : (rows : List TraceRow) (decisions : List Decision) (place : ℕ) (row : TraceRow) (other : Decision)
     → length decisions ≡ length rows → place < length rows → row ≡ get_or rows place row
     → report_text_from 1 (take (place + 1) rows) (take (place + 1) decisions)
     ≡ report_text_from 1 (take place rows) (take place decisions)
@@ -39,7 +39,7 @@ one_listed rows decisions place row other same inside is =
     let few = length-take-le place decisions (omega arith) in
     let number : 1 + length (take place rows) ≡ place + 1 = omega arith in
     (λ i. report_text_from 1 ((take_more rows place row inside
-    ∙ ap (λ (r : Row). take place rows ++ r ∷ []) (sym is)) i) (take_more decisions place other (omega arith) i))
+    ∙ ap (λ (r : TraceRow). take place rows ++ r ∷ []) (sym is)) i) (take_more decisions place other (omega arith) i))
     ∙ report_goes_on (take place rows) (row ∷ []) (take place decisions) (decision ∷ []) 1 (omega arith)
     ∙ ap (λ (l : List ℕ). report_text_from 1 (take place rows) (take place decisions) ++ l)
     (append-nil (report_row (1 + length (take place rows)) row.access decision)

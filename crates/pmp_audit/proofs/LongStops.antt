@@ -4,7 +4,7 @@ use Rattle.std.proofs.Common.{Option, Some, None, Ok, Err, refl, sym, ap, subst,
 use Rattle.std.proofs.Common.{append_assoc, append-nil, arith, length}
 use Rattle.std.specs.Io.KnownBytes.{Appends}
 use Rattle.std.proofs.KnownBytes.{Appends-trans}
-use Rattle.pmp_text.specs.declared.trace.TraceFault.{TraceFault}
+use Rattle.pmp_text.specs.declared.trace.RowFault.{RowFault}
 use Rattle.pmp_text.specs.declared.refusal.Refusal.TheVariants.{BadHeader}
 use Rattle.pmp_text.specs.declared.trace.rows.Place.{Place}
 use Rattle.pmp_text.specs.Bytes.{AppendsBeginning}
@@ -16,11 +16,11 @@ use Rattle.pmp_text.specs.Scripts.{script_meaning}
 use Rattle.pmp_text.specs.Tables.{records_of}
 use Rattle.pmp_text.specs.Flaws.{at_row, as_whole}
 use Rattle.pmp_text.specs.Moments.{KnownMoments, moments_in}
-use Rattle.pmp_audit.specs.declared.fault.AuditFault.{AuditFault}
-use Rattle.pmp_audit.specs.declared.fault.AuditFault.TheVariants.{Trace, Memory}
-use Rattle.pmp_audit.specs.declared.fault.AuditFault.TheVariants.{Output}
+use Rattle.pmp_audit.specs.declared.fault.ReportFault.{ReportFault}
+use Rattle.pmp_audit.specs.declared.fault.ReportFault.TheVariants.{Trace, Memory}
+use Rattle.pmp_audit.specs.declared.fault.ReportFault.TheVariants.{Output}
 use Rattle.pmp_audit.specs.declared.standing.Standing.{Standing}
-use Rattle.pmp_audit.specs.declared.trace_audit.Summary.{Summary}
+use Rattle.pmp_audit.specs.declared.trace_audit.AuditSummary.{AuditSummary}
 use Rattle.pmp_audit.specs.LongAudit.{IsTooLong, LongAuditSays, StopsLong, WroteFront}
 use Rattle.pmp_audit.specs.LongPieces.{IsReported, PieceFails}
 use Rattle.pmp_audit.specs.Report.{refused_count}
@@ -33,7 +33,7 @@ use Rattle.pmp_audit.proofs.LongSteps.{front_of}
 pub record IsPieceOf (moments : KnownMoments) (place : Place) (records : Records) (piece trace : List ℕ) : Type 0 where
   pub tail : Records
   pub are : records_of trace ≡ records ++ tail
-  pub stays : (fault : TraceFault) → piece_fault moments place (records_of piece) ≡ Some fault
+  pub stays : (fault : RowFault) → piece_fault moments place (records_of piece) ≡ Some fault
       → piece_fault moments place tail ≡ Some fault
   pub fronts : (front behind : Records) → records_of piece ≡ front ++ behind → piece_fault moments place front ≡ None
       → (others : Records) × (tail ≡ front ++ others)
@@ -60,7 +60,7 @@ module _ (script : List ℕ) {contents : ScriptContents} (means : script_meaning
   -- ---- a piece that isn't written
 
   module _ (piece trace : List ℕ) (here : IsPieceOf (moments_in contents) old.place records piece trace) where
-    faulty : (fault : TraceFault) → piece_fault moments old.place (records_of piece) ≡ Some fault
+    faulty : (fault : RowFault) → piece_fault moments old.place (records_of piece) ≡ Some fault
         → long_meaning moments first (records_of trace) ≡ Err fault
     faulty fault found = faulty_records moments first (records_of trace) fault
         (ap (piece_fault moments (beginning first)) here.are ∙ fault_behind stands here.tail ∙ here.stays fault found)
@@ -78,11 +78,11 @@ module _ (script : List ℕ) {contents : ScriptContents} (means : script_meaning
         } in
         subst (HasTooManyRows moments (beginning first)) (sym here.are) (too_many_in_all stands here.tail tail)
 
-    abbrev Why : TraceFault → Type 0
+    abbrev Why : RowFault → Type 0
     Why fault = (long_meaning moments first (records_of trace) ≡ Err fault) ⊎ (fault ≡ no_input_for_rows)
         ⊎ ((fault ≡ too_long_for_rows) × IsTooLong limit moments first trace)
 
-    why : (fault : TraceFault) → (piece_fault moments old.place (records_of piece) ≡ Some fault)
+    why : (fault : RowFault) → (piece_fault moments old.place (records_of piece) ≡ Some fault)
         ⊎ (fault ≡ no_input_for_rows)
         ⊎ ((fault ≡ too_long_for_rows) × HasTooManyRows moments old.place (records_of piece))
         → Why fault
@@ -90,7 +90,7 @@ module _ (script : List ℕ) {contents : ScriptContents} (means : script_meaning
     why fault (inr (inl failed)) = inr (inl failed)
     why fault (inr (inr (long, many))) = inr (inr (long, inr (inl (too_many many))))
 
-    pub piece_fails : (fault : AuditFault) → PieceFails contents (records_of piece) old fault
+    pub piece_fails : (fault : ReportFault) → PieceFails contents (records_of piece) old fault
         → StopsLong limit script first trace out_old out_mid fault
     piece_fails (Trace fault) fails = (
       record { contents = contents; script_means = means; why = why fault fails },
@@ -121,7 +121,7 @@ module _ (script : List ℕ) {contents : ScriptContents} (means : script_meaning
   -- ---- the end of the trace
 
   module _ (trace : List ℕ) (are : records_of trace ≡ records) where
-    pub says_all : (summary : Summary) → old.place.begun ≡ true
+    pub says_all : (summary : AuditSummary) → old.place.begun ≡ true
         → summary ≡ record { rows = old.place.next - first; faults = old.faults; bare = old.place.bare }
         → LongAuditSays script first trace summary text
     says_all summary begun is =

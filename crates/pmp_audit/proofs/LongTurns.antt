@@ -6,7 +6,10 @@ use Rattle.std.specs.Prelude.{IfSome, MatchResult}
 use Rattle.std.specs.Io.KnownBytes.{Appends, Consumes}
 use Rattle.std.proofs.KnownBytes.{Appends-trans, Consumes-trans, Keeps-refl}
 use Rattle.std.proofs.lemmas.List.{length-append}
-use Rattle.pmp_text.specs.declared.script.ScriptFault.{ScriptFault}
+use Rattle.pmp_text.specs.declared.script.LineFault.{LineFault}
+use Rattle.pmp_text.specs.declared.input.InputFault.{InputFault}
+use Rattle.pmp_text.specs.declared.input.InputFault.TheVariants as input
+use Rattle.pmp_text.specs.Inputs.{refusal_of_input}
 use Rattle.pmp_text.specs.declared.refusal.Refusal.{Refusal}
 use Rattle.pmp_text.specs.declared.refusal.Refusal.TheVariants as kinds
 use Rattle.pmp_text.specs.declared.refusal.Refusal.TheVariants.{BadHeader}
@@ -20,10 +23,10 @@ use Rattle.pmp_text.specs.Tables.{records_of}
 use Rattle.pmp_text.specs.Flaws.{as_whole, at_row}
 use Rattle.pmp_text.proofs.PieceFaults as pieces
 use Rattle.pmp_text.specs.Moments.{moments_in}
-use Rattle.pmp_audit.specs.declared.fault.AuditFault.{AuditFault}
-use Rattle.pmp_audit.specs.declared.fault.AuditFault.TheVariants.{Output, Script, Trace}
+use Rattle.pmp_audit.specs.declared.fault.ReportFault.{ReportFault}
+use Rattle.pmp_audit.specs.declared.fault.ReportFault.TheVariants.{Output, Script, Trace}
 use Rattle.pmp_audit.specs.declared.standing.Standing.{Standing}
-use Rattle.pmp_audit.specs.declared.trace_audit.Summary.{Summary}
+use Rattle.pmp_audit.specs.declared.trace_audit.AuditSummary.{AuditSummary}
 use Rattle.pmp_audit.specs.Answers.{IsWritten}
 use Rattle.pmp_audit.specs.Fault.{fault_of_script}
 use Rattle.pmp_audit.specs.LongAudit.{LongAuditSays, StopsLong}
@@ -41,13 +44,13 @@ any_trace None = tt
 any_trace (Some those) = refl
 
 module _ (limit : ℕ) (script : List ℕ) (first : ℕ) (in_old out : Option (List ℕ)) where
-  refused : (fault : ScriptFault) → (script_meaning script ≡ Err fault) ⊎ (fault ≡ out_of_memory)
+  refused : (fault : LineFault) → (script_meaning script ≡ Err fault) ⊎ (fault ≡ out_of_memory)
       → StopsLong limit script first (unwrap_or in_old []) out out (fault_of_script fault)
   refused fault (inl means) = by_kind (StopsLong limit script first (unwrap_or in_old []) out out)
       (inl (Keeps-refl out)) (Script fault) (means, Keeps-refl out) fault.kind
   refused fault (inr is) = rw is (inl (Keeps-refl out))
 
-  pub script_stops : (fault : ScriptFault) → (script_meaning script ≡ Err fault) ⊎ (fault ≡ out_of_memory)
+  pub script_stops : (fault : LineFault) → (script_meaning script ≡ Err fault) ⊎ (fault ≡ out_of_memory)
       → (trace : List ℕ) × IfSome in_old (λ those. trace ≡ those)
       × StopsLong limit script first trace out out (fault_of_script fault)
   script_stops fault why = (unwrap_or in_old [], any_trace in_old, refused fault why)
@@ -144,7 +147,7 @@ module _ {script : ScriptContents} {first count : ℕ} {in_old in_mid : Option (
       }
 
     -- the audit stops so, whatever text means the script
-    abbrev pub Stops : Option (List ℕ) → AuditFault → Type 0
+    abbrev pub Stops : Option (List ℕ) → ReportFault → Type 0
     Stops out_new fault = (text : List ℕ) → script_meaning text ≡ Ok script → (trace : List ℕ)
         × IfSome in_old (λ those. trace ≡ those) × StopsLong limit text first trace out_old out_new fault
 
@@ -168,7 +171,7 @@ module _ {script : ScriptContents} {first count : ℕ} {in_old in_mid : Option (
         record { trace = trace_all piece cut; known = all_known piece cut; here = last_piece piece cut }
 
     module _ (piece : List ℕ) (has : HasPiece piece) where
-      pub fails : (fault : AuditFault) → PieceFails script (records_of piece) old fault → Stops out_mid fault
+      pub fails : (fault : ReportFault) → PieceFails script (records_of piece) old fault → Stops out_mid fault
       fails fault why = λ text means. (
         has.trace,
         has.known,
@@ -186,27 +189,26 @@ module _ {script : ScriptContents} {first count : ℕ} {in_old in_mid : Option (
 
     -- ---- no piece
 
-    pub cut_stops : (left : List ℕ) (fault : Refusal) → IsCut limit held in_mid in_new left (Err fault)
-        → Stops out_mid (fault_of_cut fault)
-    cut_stops left kinds.TooLong uncut = λ text means. (
+    pub cut_stops : (left : List ℕ) (fault : InputFault) → IsCut limit held in_mid in_new left (Err fault)
+        → Stops out_mid (fault_of_cut (refusal_of_input fault))
+    cut_stops left input.TooLong uncut = λ text means. (
       trace_taken uncut.taken uncut.consumed,
       taken_known uncut.taken uncut.consumed,
       too_long text means limit going.stands out_old out_mid going.written _ _
           (going.apart (uncut.taken ++ unwrap_or in_new []))
           (inl (long_in_all uncut.taken uncut.consumed (limit - 1) uncut.line)),
     )
-    cut_stops left kinds.Input uncut = λ text means. (
+    cut_stops left input.Input uncut = λ text means. (
       trace_held,
       held_known,
       no_input text means limit going.stands out_old out_mid going.written _ _ (going.apart (unwrap_or in_mid [])),
     )
-    cut_stops left kinds.Memory uncut = λ text means. (
+    cut_stops left input.Memory uncut = λ text means. (
       trace_held,
       held_known,
       inr (wrote_front text means limit going.stands out_old out_mid going.written _ _
           (going.apart (unwrap_or in_mid []))),
     )
-    cut_stops left refusal uncut = absurd uncut
 
     pub no_turn : 2 ^ 64 - 1 ≤ count → Stops out_mid (fault_of_cut kinds.TooLong)
     no_turn turns = λ text means. (
@@ -228,13 +230,13 @@ module _ {script : ScriptContents} {first count : ℕ} {in_old in_mid : Option (
       all_written : Appends out_old out_new (going.text ++ more)
       all_written = Appends-trans _ _ _ _ _ going.written wrote
 
-      abbrev pub Ends : Result Summary AuditFault → Type 0
+      abbrev pub Ends : Result AuditSummary ReportFault → Type 0
       Ends result = MatchResult result
           (λ summary. (new.place.begun ≡ true)
           × (summary ≡ record { rows = new.place.next - first; faults = new.faults; bare = new.place.bare }))
           (λ fault. (new.place.begun ≡ false) × (fault ≡ Trace (at_row 0 (as_whole BadHeader))))
 
-      pub ends_well : (result : Result Summary AuditFault) → Ends result → (text : List ℕ)
+      pub ends_well : (result : Result AuditSummary ReportFault) → Ends result → (text : List ℕ)
           → script_meaning text ≡ Ok script → IfOk result (λ summary. (trace : List ℕ)
           × IfSome in_old (λ those. trace ≡ those) × IsWritten (LongAuditSays text first trace) out_old out_new summary)
       ends_well (Err fault) ends text means = tt
@@ -248,7 +250,7 @@ module _ {script : ScriptContents} {first count : ℕ} {in_old in_mid : Option (
         },
       )
 
-      pub ends_badly : (result : Result Summary AuditFault) → Ends result → (text : List ℕ)
+      pub ends_badly : (result : Result AuditSummary ReportFault) → Ends result → (text : List ℕ)
           → script_meaning text ≡ Ok script → IfErr result (λ fault. (trace : List ℕ)
           × IfSome in_old (λ those. trace ≡ those) × StopsLong limit text first trace out_old out_new fault)
       ends_badly (Ok summary) ends text means = tt

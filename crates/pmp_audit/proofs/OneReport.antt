@@ -7,7 +7,7 @@ use Rattle.pmp_core.specs.declared.decision.Decision.{Decision}
 use Rattle.pmp_core.specs.declared.access.TheConstants.{ADDRESS_LIMIT, MAX_LENGTH}
 use Rattle.pmp_core.specs.Decision.{IsDecision}
 use Rattle.pmp_core.specs.RegisterFile.{RegisterFile}
-use Rattle.pmp_text.specs.declared.trace.Row.{Row}
+use Rattle.pmp_text.specs.declared.trace.TraceRow.{TraceRow}
 use Rattle.pmp_text.specs.Traces.{row_fields}
 use Rattle.pmp_text.specs.Reports.{file_of_script, report_text}
 use Rattle.pmp_audit.specs.Laws.{OneListOfDecisionsLaw, OneReportLaw}
@@ -22,7 +22,7 @@ one_list_of_decisions one_decision script rows one other decided too =
 
 -- ---- a row is what a trace says of it
 
-same_row : (one other : Row) → row_fields one ≡ row_fields other → one ≡ other
+same_row : (one other : TraceRow) → row_fields one ≡ row_fields other → one ≡ other
 same_row one other same = λ i. record {
   after = (same i).after;
   access = record {

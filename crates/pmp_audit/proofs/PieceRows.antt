@@ -6,8 +6,8 @@ use Rattle.std.specs.Prelude.{IfErr, IfOk, Result, Err, filter_map}
 use Rattle.std.specs.Option.{option_or}
 use Rattle.std.proofs.lemmas.List.{length-append}
 use Rattle.pmp_core.specs.declared.decision.Decision.{Decision}
-use Rattle.pmp_text.specs.declared.trace.Row.{Row}
-use Rattle.pmp_text.specs.declared.trace.TraceFault.{TraceFault}
+use Rattle.pmp_text.specs.declared.trace.TraceRow.{TraceRow}
+use Rattle.pmp_text.specs.declared.trace.RowFault.{RowFault}
 use Rattle.pmp_text.specs.declared.trace.rows.Place.{Place}
 use Rattle.pmp_text.specs.Contents.{ScriptContents}
 use Rattle.pmp_text.specs.LongTraces.{HasTooManyRows, IsHeaded, Records, first_fault_at, has_begun, is_bare_record}
@@ -18,8 +18,8 @@ use Rattle.pmp_text.specs.RowsLeft.{IsNextRow, IsOutOfNumbers, RowsLeft, place_a
 use Rattle.pmp_text.specs.Traces.{first_row_fault, row_fault, row_fields, row_in, row_of_record}
 use Rattle.pmp_text.proofs.LeastRows.{least_of, rows_in_order}
 use Rattle.pmp_text.specs.Moments.{KnownMoments, moments_in}
-use Rattle.pmp_audit.specs.declared.fault.AuditFault.{AuditFault}
-use Rattle.pmp_audit.specs.declared.fault.AuditFault.TheVariants.{Trace, Memory}
+use Rattle.pmp_audit.specs.declared.fault.ReportFault.{ReportFault}
+use Rattle.pmp_audit.specs.declared.fault.ReportFault.TheVariants.{Trace, Memory}
 use Rattle.pmp_audit.specs.declared.piece.PieceReport.{PieceReport}
 use Rattle.pmp_audit.specs.declared.standing.Standing.{Standing}
 use Rattle.pmp_audit.specs.Fault.{fault_of_trace}
@@ -39,7 +39,7 @@ pub record Reported (script : ScriptContents) (standing : Standing) (records : R
 
 -- ---- why a piece isn't reported
 
-module _ (script : ScriptContents) (records : Records) (standing : Standing) (fault : TraceFault) where
+module _ (script : ScriptContents) (records : Records) (standing : Standing) (fault : RowFault) where
   pub piece_fails : (piece_fault (moments_in script) standing.place records ≡ Some fault)
       ⊎ (fault ≡ no_memory_for_rows) ⊎ (fault ≡ no_input_for_rows)
       ⊎ ((fault ≡ too_long_for_rows) × HasTooManyRows (moments_in script) standing.place records)
@@ -113,7 +113,7 @@ none_reported script standing left here same = record {
 
 -- ---- one row more
 
-row_place : (moments : KnownMoments) (place : Place) (fields : List (List ℕ)) (row : Row) → place.begun ≡ true
+row_place : (moments : KnownMoments) (place : Place) (fields : List (List ℕ)) (row : TraceRow) → place.begun ≡ true
     → row_in moments fields ≡ Ok (row_fields row) → place_after place row ≡ place_behind moments place (fields ∷ [])
 row_place moments place fields row begun said = rw (begun, is_bare_record, said) refl
 
@@ -127,7 +127,7 @@ module _ {script : ScriptContents} {standing : Standing} {records : Records} {le
       (so_far.all ∙ ap (λ (l : Records). so_far.done ++ l) e) in
       ap (λ (p : Place). p.begun) so_far.so_far.place ∙ ap (λ (b : Bool). has_begun b so_far.done) first
 
-  module _ {row : Row} {after : RowsLeft} (is : IsNextRow left row after) where
+  module _ {row : TraceRow} {after : RowsLeft} (is : IsNextRow left row after) where
     said_here : row_in (moments_in script) is.fields ≡ Ok (row_fields row)
     said_here = subst (λ (m : KnownMoments). row_in m is.fields ≡ Ok (row_fields row)) so_far.same is.said
 
@@ -219,7 +219,7 @@ module _ {script : ScriptContents} {standing : Standing} {records : Records} {le
       } in
       subst (HasTooManyRows moments standing.place) (sym so_far.all) (too_many_in_all so_far.so_far left.records here)
 
-  pub row_fails : (fault : TraceFault)
+  pub row_fails : (fault : RowFault)
       → (first_row_fault left.moments left.place.last left.place.next left.records ≡ Some fault)
       ⊎ (fault ≡ no_memory_for_rows) ⊎ (fault ≡ no_input_for_rows)
       ⊎ ((fault ≡ too_long_for_rows) × IsOutOfNumbers left)
@@ -297,7 +297,7 @@ module _ (script : ScriptContents) (standing : Standing) (records : Records) whe
         standing.place.bare
         records
 
-    pub with_header : (answer : Result PieceReport AuditFault) → IfOk answer (IsPieceReported script rows behind)
+    pub with_header : (answer : Result PieceReport ReportFault) → IfOk answer (IsPieceReported script rows behind)
         → IfOk answer (IsPieceReported script records standing)
     with_header (Err fault) reported = reported
     with_header (Ok report) reported =
@@ -316,7 +316,7 @@ module _ (script : ScriptContents) (standing : Standing) (records : Records) whe
           counted = reported.counted;
         }
 
-    fails_so : (fault : AuditFault) → PieceFails script rows behind fault → PieceFails script records standing fault
+    fails_so : (fault : ReportFault) → PieceFails script rows behind fault → PieceFails script records standing fault
     fails_so (Trace fault) (inl e) = inl (same_fault ∙ e)
     fails_so (Trace fault) (inr (inl input)) = inr (inl input)
     fails_so (Trace fault) (inr (inr (long, many))) = inr (inr (
@@ -327,7 +327,7 @@ module _ (script : ScriptContents) (standing : Standing) (records : Records) whe
     fails_so Memory why = tt
     fails_so fault why = absurd why
 
-    pub fails_with_header : (answer : Result PieceReport AuditFault) → IfErr answer (PieceFails script rows behind)
+    pub fails_with_header : (answer : Result PieceReport ReportFault) → IfErr answer (PieceFails script rows behind)
         → IfErr answer (PieceFails script records standing)
     fails_with_header (Ok report) why = why
     fails_with_header (Err fault) why = fails_so fault why

@@ -9,8 +9,8 @@ use Rattle.std.proofs.lemmas.List.Sums.{count_by-le-length, sum_by-append}
 use Rattle.std.proofs.lemmas.Slice.Zip.{AllZip-long}
 use Rattle.pmp_core.specs.declared.decision.Decision.{Decision}
 use Rattle.pmp_text.specs.declared.flaw.Flaw.{Flaw}
-use Rattle.pmp_text.specs.declared.trace.Row.{Row}
-use Rattle.pmp_text.specs.declared.trace.TraceFault.{TraceFault}
+use Rattle.pmp_text.specs.declared.trace.TraceRow.{TraceRow}
+use Rattle.pmp_text.specs.declared.trace.RowFault.{RowFault}
 use Rattle.pmp_text.specs.declared.trace.row_fields.RowFields.{RowFields}
 use Rattle.pmp_text.specs.declared.trace.rows.Place.{Place}
 use Rattle.pmp_text.specs.Contents.{ScriptContents}
@@ -32,7 +32,7 @@ use Rattle.pmp_audit.proofs.Reports.{Decides}
 abbrev pub start : (first : ℕ) → Standing
 start first = record { place = beginning first; faults = 0 }
 
-neither : (own later : Option TraceFault) → option_or own later ≡ None → (own ≡ None) × (later ≡ None)
+neither : (own later : Option RowFault) → option_or own later ≡ None → (own ≡ None) × (later ≡ None)
 neither None later e = (refl, e)
 neither (Some fault) later e = absurd cc
 
@@ -41,7 +41,7 @@ neither (Some fault) later e = absurd cc
 abbrev bare_field : RowFields → Bool
 bare_field fields = fields.is_bare
 
-bare_rows : (number : ℕ) (rows : List Row)
+bare_rows : (number : ℕ) (rows : List TraceRow)
     → first_bare number rows ≡ position_from bare_field number (map row_fields rows)
 bare_rows number [] = refl
 bare_rows number (row ∷ rows) =
@@ -82,7 +82,7 @@ module _ (moments : KnownMoments) where
   all_rows_say false (header ∷ rows) last next fine =
       all_say rows last next next (behind moments (is_header header) last next rows fine)
 
-all_zipped : (script : ScriptContents) (rows more : List Row) (decisions others : List Decision)
+all_zipped : (script : ScriptContents) (rows more : List TraceRow) (decisions others : List Decision)
     → AllZip (Decides script) rows decisions → AllZip (Decides script) more others
     → AllZip (Decides script) (rows ++ more) (decisions ++ others)
 all_zipped script [] more [] others here there = there
@@ -133,7 +133,7 @@ module _ {script : ScriptContents} {records : Records} {old new : Standing} {tex
   pub fault_behind : (more : Records) → piece_fault moments old.place (records ++ more)
       ≡ piece_fault moments new.place more
   fault_behind more = in_turn moments old.place.last old.place.next old.place.begun records more
-      ∙ ap (λ (x : Option TraceFault). option_or x
+      ∙ ap (λ (x : Option RowFault). option_or x
       (piece_fault moments (place_behind moments old.place records) more)) says.fine
       ∙ ap (λ (p : Place). piece_fault moments p more) (sym reported.place)
 

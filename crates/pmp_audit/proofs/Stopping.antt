@@ -5,24 +5,24 @@ use Rattle.std.proofs.lemmas.List.{get_or-map, length-map}
 use Rattle.std.proofs.KnownBytes.{Keeps-refl}
 use Rattle.pmp_share.specs.declared.fault.ShareFault.TheVariants.{NoPlace}
 use Rattle.pmp_share.specs.Batches.{Batches, event_count}
-use Rattle.pmp_text.specs.declared.trace.Row.{Row}
+use Rattle.pmp_text.specs.declared.trace.TraceRow.{TraceRow}
 use Rattle.pmp_text.specs.Traces.{row_fields}
-use Rattle.pmp_audit.specs.declared.fault.AuditFault.{AuditFault}
-use Rattle.pmp_audit.specs.declared.fault.AuditFault.TheVariants.{Share, Moved, Memory}
+use Rattle.pmp_audit.specs.declared.fault.ReportFault.{ReportFault}
+use Rattle.pmp_audit.specs.declared.fault.ReportFault.TheVariants.{Share, Moved, Memory}
 use Rattle.pmp_audit.specs.Answers.{IsRefused}
 use Rattle.pmp_audit.specs.Working.{StopsRound}
 use Rattle.pmp_audit.specs.SharedAudit.{AreFaultless, MayStop, SawMore, SharedAuditRefuses}
 
 -- where a row asks for publications that have fewer events than were seen
-more_than_asked : (batches : Batches) (told seen : ℕ) (rows : List Row) → Any (λ row. row.after ≡ told) rows
+more_than_asked : (batches : Batches) (told seen : ℕ) (rows : List TraceRow) → Any (λ row. row.after ≡ told) rows
     → event_count (take told batches) < seen → SawMore batches (map row_fields rows) seen
 more_than_asked batches told seen rows (k, row, inside, at, asks) less =
     let at_row = get_or-map row_fields rows k row (row_fields row) inside ∙ ap row_fields at in
     (k, row_fields row, rw (length-map rows row_fields) inside, at_row, rw asks less)
 
 -- what stops a round after the publications that a row asks for may stop the audit
-pub stops_after : (batches published : Batches) (rows : List Row) (told : ℕ) → published ≡ take told batches
-    → (fault : AuditFault) → StopsRound published fault → Any (λ row. row.after ≡ told) rows
+pub stops_after : (batches published : Batches) (rows : List TraceRow) (told : ℕ) → published ≡ take told batches
+    → (fault : ReportFault) → StopsRound published fault → Any (λ row. row.after ≡ told) rows
     → MayStop batches (map row_fields rows) fault
 stops_after batches published rows told is (Share NoPlace) stops asks = tt
 stops_after batches published rows told is (Moved moved) stops asks =
@@ -32,7 +32,7 @@ stops_after batches published rows told is fault stops asks = absurd stops
 
 -- what may stop the audit, while nothing was written, is a refusal of it
 pub refused_so : {A : Type 0} (Says : A → List ℕ → Type 0) (before : Option (List ℕ)) (script trace : List ℕ)
-    (inputs : AreFaultless script trace) (fault : AuditFault) → MayStop inputs.contents.batches inputs.rows fault
+    (inputs : AreFaultless script trace) (fault : ReportFault) → MayStop inputs.contents.batches inputs.rows fault
     → IsRefused Says before before (SharedAuditRefuses script trace) fault
 refused_so Says before script trace inputs (Share NoPlace) stops = (inputs, Keeps-refl before)
 refused_so Says before script trace inputs (Moved moved) stops = ((inputs, stops), Keeps-refl before)

@@ -3,7 +3,7 @@ use Rattle.std.proofs.Common.{◌≡◌, ℕ, ◌-◌, ◌<◌, ◌≤◌, true,
 use Rattle.std.proofs.Common.{refl, sym, ap, ◌∙◌, inl, inr}
 use Rattle.std.proofs.KnownBytes.{Keeps-refl}
 use Rattle.pmp_text.specs.declared.refusal.Refusal.TheVariants.{BadHeader, TooLong}
-use Rattle.pmp_text.specs.declared.trace.TraceFault.{TraceFault}
+use Rattle.pmp_text.specs.declared.trace.RowFault.{RowFault}
 use Rattle.pmp_text.specs.declared.trace.reader.TheConstants.{MAX_TRACE}
 use Rattle.pmp_text.specs.declared.trace.rows.Place.{Place}
 use Rattle.pmp_text.specs.Contents.{ScriptContents}
@@ -16,10 +16,10 @@ use Rattle.pmp_text.specs.Traces.{is_header, rows_meaning, trace_meaning}
 use Rattle.pmp_text.proofs.Rows.{long_text, trace_is}
 use Rattle.pmp_text.proofs.WholeTraces.{few_rows, found, meaning_is, without_header}
 use Rattle.pmp_text.specs.Moments.{moments_in}
-use Rattle.pmp_audit.specs.declared.fault.AuditFault.{AuditFault}
-use Rattle.pmp_audit.specs.declared.fault.AuditFault.TheVariants.{Trace, Memory}
+use Rattle.pmp_audit.specs.declared.fault.ReportFault.{ReportFault}
+use Rattle.pmp_audit.specs.declared.fault.ReportFault.TheVariants.{Trace, Memory}
 use Rattle.pmp_audit.specs.declared.standing.Standing.{Standing}
-use Rattle.pmp_audit.specs.declared.trace_audit.Summary.{Summary}
+use Rattle.pmp_audit.specs.declared.trace_audit.AuditSummary.{AuditSummary}
 use Rattle.pmp_audit.specs.Answers.{IsRefused}
 use Rattle.pmp_audit.specs.LongAudit.{LongAuditSays}
 use Rattle.pmp_audit.specs.LongPieces.{IsReported, PieceFails}
@@ -27,7 +27,7 @@ use Rattle.pmp_audit.specs.TraceAudit.{AuditRefuses, AuditSays}
 use Rattle.pmp_audit.proofs.LongStops.{says_all}
 use Rattle.pmp_audit.proofs.PieceTexts.{start}
 
-says_short : (script trace : List ℕ) (summary : Summary) (text : List ℕ) → length trace ≤ MAX_TRACE
+says_short : (script trace : List ℕ) (summary : AuditSummary) (text : List ℕ) → length trace ≤ MAX_TRACE
     → LongAuditSays script 1 trace summary text → AuditSays script trace summary text
 unfolding report_text report_text_from
 says_short script trace summary text short says = record {
@@ -44,10 +44,10 @@ says_short script trace summary text short says = record {
 }
 
 module _ (script trace : List ℕ) (contents : ScriptContents) (means : script_meaning script ≡ Ok contents) where
-  abbrev Refused : Option (List ℕ) → Option (List ℕ) → AuditFault → Type 0
+  abbrev Refused : Option (List ℕ) → Option (List ℕ) → ReportFault → Type 0
   Refused before after = IsRefused (AuditSays script trace) before after (AuditRefuses script trace)
 
-  refuses : (fault : TraceFault) → trace_meaning (moments_in contents) trace ≡ Err fault → (out : Option (List ℕ))
+  refuses : (fault : RowFault) → trace_meaning (moments_in contents) trace ≡ Err fault → (out : Option (List ℕ))
       → Refused out out (Trace fault)
   refuses fault e out = (record { contents = contents; script_means = means; trace_means = inl e }, Keeps-refl out)
 
@@ -57,7 +57,7 @@ module _ (script trace : List ℕ) (contents : ScriptContents) (means : script_m
       ∙ long_text is_header (rows_meaning (moments_in contents)) trace long) out
 
   module _ (short : length trace ≤ MAX_TRACE) where
-    pub fails : (fault : AuditFault) → PieceFails contents (records_of trace) (start 1) fault
+    pub fails : (fault : ReportFault) → PieceFails contents (records_of trace) (start 1) fault
         → (out : Option (List ℕ)) → Refused out out fault
     fails (Trace fault) (inl e) out = refuses fault (found (moments_in contents) trace short fault e) out
     fails (Trace fault) (inr (inl input)) out =
@@ -69,7 +69,7 @@ module _ (script trace : List ℕ) (contents : ScriptContents) (means : script_m
 
     module _ (behind : Standing) (text : List ℕ) (whole : IsReported contents (records_of trace) (start 1) behind text)
       where
-        pub says : (summary : Summary) → behind.place.begun ≡ true
+        pub says : (summary : AuditSummary) → behind.place.begun ≡ true
             → summary ≡ record { rows = behind.place.next - 1; faults = behind.faults; bare = behind.place.bare }
             → AuditSays script trace summary text
         says summary begun is = says_short script trace summary text short

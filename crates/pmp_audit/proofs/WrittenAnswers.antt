@@ -3,13 +3,13 @@ use Rattle.std.proofs.Common.{◌≡◌, ◌⊎◌, ℕ, ◌++◌, List, [], Opt
 use Rattle.std.specs.Prelude.{IfOk, IfErr}
 use Rattle.std.specs.Io.KnownBytes.{Appends, Keeps}
 use Rattle.pmp_text.specs.Bytes.{AppendsBeginning}
-use Rattle.pmp_audit.specs.declared.fault.AuditFault.{AuditFault}
-use Rattle.pmp_audit.specs.declared.fault.AuditFault.TheVariants.{Memory}
-use Rattle.pmp_audit.specs.declared.fault.AuditFault.TheVariants.{Output}
+use Rattle.pmp_audit.specs.declared.fault.ReportFault.{ReportFault}
+use Rattle.pmp_audit.specs.declared.fault.ReportFault.TheVariants.{Memory}
+use Rattle.pmp_audit.specs.declared.fault.ReportFault.TheVariants.{Output}
 use Rattle.pmp_audit.specs.Answers.{Declines, IsAppended, IsWritten, IsRefused}
 
 -- what was appended to an empty text is all of it
-pub whole : {A : Type 0} (Says : A → List ℕ → Type 0) (before after held : List ℕ) (made : Result A AuditFault)
+pub whole : {A : Type 0} (Says : A → List ℕ → Type 0) (before after held : List ℕ) (made : Result A ReportFault)
     → IfOk made (IsAppended Says before after) → before ≡ [] → held ≡ after → IfOk made (λ answer. Says answer held)
 whole Says before after held (Ok answer) it empty is =
     rw (is ∙ it.appended ∙ ap (λ front. front ++ it.text) empty) it.says
@@ -17,20 +17,20 @@ whole Says before after held (Err fault) none empty is = tt
 
 -- a text was made, or it was declined to: what was answered then
 module _ {A : Type 0} (Says : A → List ℕ → Type 0) (before after : Option (List ℕ)) (text : List ℕ)
-    (made : Result A AuditFault) (good : IfOk made (λ answer. Says answer text)) where
-  pub answered : (result : Result A AuditFault)
+    (made : Result A ReportFault) (good : IfOk made (λ answer. Says answer text)) where
+  pub answered : (result : Result A ReportFault)
       → IfOk result (λ given. (made ≡ Ok given) × Appends before after text) → IfOk result (IsWritten Says before after)
   answered (Ok given) (is, written) = record { text = text; says = rw is at good; written = written }
   answered (Err fault) none = tt
 
-  module _ (Refuses : AuditFault → Type 0) (never : Refuses Output → ⊥) (bad : IfErr made (Declines Refuses)) where
-    declined : (fault : AuditFault) → Declines Refuses fault → Keeps before after
+  module _ (Refuses : ReportFault → Type 0) (never : Refuses Output → ⊥) (bad : IfErr made (Declines Refuses)) where
+    declined : (fault : ReportFault) → Declines Refuses fault → Keeps before after
         → IsRefused Says before after Refuses fault
     declined Memory why kept = kept
     declined Output why kept = absurd (never why)
     declined fault why kept = (why, kept)
 
-    pub refused : (result : Result A AuditFault) → IfErr result (λ fault. ((made ≡ Err fault) × Keeps before after)
+    pub refused : (result : Result A ReportFault) → IfErr result (λ fault. ((made ≡ Err fault) × Keeps before after)
         ⊎ ((given : A) × (made ≡ Ok given) × (fault ≡ Output) × AppendsBeginning before after text))
         → IfErr result (IsRefused Says before after Refuses)
     refused (Ok given) none = tt
@@ -39,15 +39,15 @@ module _ {A : Type 0} (Says : A → List ℕ → Type 0) (before after : Option 
         rw output (record { answer = given; text = text; says = rw is at good; front = front })
 
 -- a text was made from nothing, and written, or it was declined to
-module _ {A : Type 0} (Says : A → List ℕ → Type 0) (start after held : List ℕ) (made : Result A AuditFault)
+module _ {A : Type 0} (Says : A → List ℕ → Type 0) (start after held : List ℕ) (made : Result A ReportFault)
     (before next : Option (List ℕ)) where
-  pub written_so : (result : Result A AuditFault)
+  pub written_so : (result : Result A ReportFault)
       → IfOk result (λ given. (made ≡ Ok given) × Appends before next held) → IfOk made (IsAppended Says start after)
       → start ≡ [] → held ≡ after → IfOk result (IsWritten Says before next)
   written_so result told it empty same =
       answered Says before next held made (whole Says start after held made it empty same) result told
 
-  pub refused_so : (Refuses : AuditFault → Type 0) (result : Result A AuditFault)
+  pub refused_so : (Refuses : ReportFault → Type 0) (result : Result A ReportFault)
       → IfErr result (λ fault. ((made ≡ Err fault) × Keeps before next)
       ⊎ ((given : A) × (made ≡ Ok given) × (fault ≡ Output) × AppendsBeginning before next held))
       → IfOk made (IsAppended Says start after) → start ≡ [] → held ≡ after → IfErr made (Declines Refuses)

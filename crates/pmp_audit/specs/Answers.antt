@@ -2,11 +2,11 @@
 use Rattle.std.specs.Prelude.{◌≡◌, ℕ, List, ◌++◌, Option, ⊤}
 use Rattle.std.specs.Io.KnownBytes.{Appends, Keeps}
 use Rattle.pmp_text.specs.Bytes.{AppendsBeginning}
-use Rattle.pmp_audit.specs.declared.fault.AuditFault.{AuditFault}
-use Rattle.pmp_audit.specs.declared.fault.AuditFault.TheVariants.{Memory, Output}
+use Rattle.pmp_audit.specs.declared.fault.ReportFault.{ReportFault}
+use Rattle.pmp_audit.specs.declared.fault.ReportFault.TheVariants.{Memory, Output}
 
 -- memory ran out, or the call itself refuses
-abbrev pub Declines : (Refuses : AuditFault → Type 0) → AuditFault → Type 0
+abbrev pub Declines : (Refuses : ReportFault → Type 0) → ReportFault → Type 0
 Declines Refuses Memory = ⊤
 Declines Refuses fault = Refuses fault
 
@@ -32,7 +32,7 @@ module _ {A : Type 0} (Says : A → List ℕ → Type 0) (before after : Option 
     pub front : AppendsBeginning before after text
 
   -- memory ran out, the output failed, or the call itself refuses; bytes were written only if the output failed
-  abbrev pub IsRefused : (Refuses : AuditFault → Type 0) → AuditFault → Type 0
+  abbrev pub IsRefused : (Refuses : ReportFault → Type 0) → ReportFault → Type 0
   IsRefused Refuses Memory = Keeps before after
   IsRefused Refuses Output = IsCutShort
   IsRefused Refuses fault = Refuses fault × Keeps before after

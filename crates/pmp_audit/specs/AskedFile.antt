@@ -6,8 +6,8 @@ use Rattle.pmp_text.specs.declared.refusal.Refusal.{Refusal}
 use Rattle.pmp_text.specs.Contents.{ScriptContents}
 use Rattle.pmp_text.specs.Moments.{KnownMoments, when_place}
 use Rattle.pmp_text.specs.Scripts.{script_meaning}
-use Rattle.pmp_audit.specs.declared.fault.AuditFault.{AuditFault}
-use Rattle.pmp_audit.specs.declared.fault.AuditFault.TheVariants.{Script, BadAfter, NoMoment}
+use Rattle.pmp_audit.specs.declared.fault.ReportFault.{ReportFault}
+use Rattle.pmp_audit.specs.declared.fault.ReportFault.TheVariants.{Script, BadAfter, NoMoment}
 use Rattle.pmp_audit.specs.Moments.{AreMoments}
 
 -- `done` publications are asked for: by default, all
@@ -35,19 +35,19 @@ pub record SaysOfScript (IsTextOf : ScriptContents → (done : ℕ) → List ℕ
   pub text_is : IsTextOf contents done text
 
 -- why the script lacks what is asked for: too few publications, or no such moment
-abbrev pub IsLacking : Option When → ScriptContents → AuditFault → Type 0
+abbrev pub IsLacking : Option When → ScriptContents → ReportFault → Type 0
 IsLacking after script BadAfter = (done : ℕ) × IsAsked after script done × (length script.batches < done)
 IsLacking after script NoMoment = HasNone after script
 IsLacking after script _ = ⊥
 
 -- the script has these contents, and lacks what is asked for
-pub record AsksTooMuch (script : List ℕ) (after : Option When) (fault : AuditFault) : Type 0 where
+pub record AsksTooMuch (script : List ℕ) (after : Option When) (fault : ReportFault) : Type 0 where
   pub contents : ScriptContents
   pub script_means : script_meaning script ≡ Ok contents
   pub lacking : IsLacking after contents fault
 
 -- the script's own fault, or it lacks what is asked for
-abbrev pub FileRefuses : (script : List ℕ) → (after : Option When) → AuditFault → Type 0
+abbrev pub FileRefuses : (script : List ℕ) → (after : Option When) → ReportFault → Type 0
 FileRefuses script after (Script fault) = script_meaning script ≡ Err fault
 FileRefuses script after BadAfter = AsksTooMuch script after BadAfter
 FileRefuses script after NoMoment = AsksTooMuch script after NoMoment

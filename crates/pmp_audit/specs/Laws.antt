@@ -7,14 +7,14 @@ use Rattle.pmp_core.specs.LockLaw.{StaysFrozen}
 use Rattle.pmp_core.specs.ProtectionLaw.{StaysProtected}
 use Rattle.pmp_text.specs.declared.moments.When.{When}
 use Rattle.pmp_text.specs.declared.lines.since.Since.{Since}
-use Rattle.pmp_text.specs.declared.trace.Row.{Row}
+use Rattle.pmp_text.specs.declared.trace.TraceRow.{TraceRow}
 use Rattle.pmp_text.specs.Contents.{ScriptContents}
 use Rattle.pmp_text.specs.Reports.{AreDecided, file_behind}
 use Rattle.pmp_audit.specs.declared.policy_check.Breaches.{Breaches}
 use Rattle.pmp_audit.specs.declared.policy_check.PolicySummary.{PolicySummary}
 use Rattle.pmp_audit.specs.declared.policy_check.steps.Pace.{Pace}
 use Rattle.pmp_audit.specs.declared.script_diff.AskedChanges.{AskedChanges}
-use Rattle.pmp_audit.specs.declared.trace_audit.Summary.{Summary}
+use Rattle.pmp_audit.specs.declared.trace_audit.AuditSummary.{AuditSummary}
 use Rattle.pmp_audit.specs.AskedFile.{SaysOfScript}
 use Rattle.pmp_audit.specs.ScriptDiff.{DiffSays}
 use Rattle.pmp_audit.specs.EntryList.{IsEntryList}
@@ -24,12 +24,12 @@ use Rattle.pmp_audit.specs.Since.{IsSince}
 use Rattle.pmp_audit.specs.TraceAudit.{AuditSays}
 
 abbrev pub OneListOfDecisionsLaw : Type 0
-OneListOfDecisionsLaw = (script : ScriptContents) (rows : List Row) (one other : List Decision)
+OneListOfDecisionsLaw = (script : ScriptContents) (rows : List TraceRow) (one other : List Decision)
     → AreDecided script rows one → AreDecided script rows other → one ≡ other
 
 -- a script and a trace have only one report and one summary
 abbrev pub OneReportLaw : Type 0
-OneReportLaw = (script trace : List ℕ) (one other : Summary) (text another : List ℕ)
+OneReportLaw = (script trace : List ℕ) (one other : AuditSummary) (text another : List ℕ)
     → AuditSays script trace one text → AuditSays script trace other another → (one ≡ other) × (text ≡ another)
 
 -- a script and a policy have only one answer and one summary, after publications and after events, with all breaches

@@ -3,8 +3,8 @@ use Rattle.std.specs.Prelude.{◌≡◌, ◌⊎◌, ℕ, ◌+◌, ◌-◌, ◌^�
 use Rattle.std.specs.Prelude.{Option, None, Ok, Err}
 use Rattle.std.specs.Io.KnownBytes.{Appends, Keeps}
 use Rattle.pmp_core.specs.declared.decision.Decision.{Decision}
-use Rattle.pmp_text.specs.declared.trace.Row.{Row}
-use Rattle.pmp_text.specs.declared.trace.TraceFault.{TraceFault}
+use Rattle.pmp_text.specs.declared.trace.TraceRow.{TraceRow}
+use Rattle.pmp_text.specs.declared.trace.RowFault.{RowFault}
 use Rattle.pmp_text.specs.declared.trace.rows.Place.{Place}
 use Rattle.pmp_text.specs.Bytes.{AppendsBeginning}
 use Rattle.pmp_text.specs.Contents.{ScriptContents}
@@ -16,14 +16,14 @@ use Rattle.pmp_text.specs.Reports.{AreDecided}
 use Rattle.pmp_text.specs.Scripts.{script_meaning}
 use Rattle.pmp_text.specs.Tables.{records_of}
 use Rattle.pmp_text.specs.Traces.{row_fields, row_of_record}
-use Rattle.pmp_audit.specs.declared.fault.AuditFault.{AuditFault}
-use Rattle.pmp_audit.specs.declared.fault.AuditFault.TheVariants.{Script, Trace, Memory, Output}
-use Rattle.pmp_audit.specs.declared.trace_audit.Summary.{Summary}
+use Rattle.pmp_audit.specs.declared.fault.ReportFault.{ReportFault}
+use Rattle.pmp_audit.specs.declared.fault.ReportFault.TheVariants.{Script, Trace, Memory, Output}
+use Rattle.pmp_audit.specs.declared.trace_audit.AuditSummary.{AuditSummary}
 use Rattle.pmp_audit.specs.TraceAudit.{summary_of}
 
 -- the script has these contents, the text is its report for the trace, numbered from `first`, and its decisions are
 -- counted
-pub record LongAuditSays (script : List ℕ) (first : ℕ) (trace : List ℕ) (summary : Summary) (text : List ℕ) : Type 0
+pub record LongAuditSays (script : List ℕ) (first : ℕ) (trace : List ℕ) (summary : AuditSummary) (text : List ℕ) : Type 0
   where
     pub contents : ScriptContents
     pub script_means : script_meaning script ≡ Ok contents
@@ -35,7 +35,7 @@ pub record LongAuditSays (script : List ℕ) (first : ℕ) (trace : List ℕ) (s
 -- the records have no fault at this place, and the text reports the decisions of their rows
 pub record IsReportAt (script : ScriptContents) (place : Place) (records : Records) (text : List ℕ) : Type 0 where
   pub fine : piece_fault (moments_in script) place records ≡ None
-  pub rows : List Row
+  pub rows : List TraceRow
   pub decisions : List Decision
   pub said : map row_fields rows ≡ filter_map (row_of_record (moments_in script)) (row_records place.begun records)
   pub decided : AreDecided script rows decisions
@@ -57,7 +57,7 @@ IsTooLong limit moments first trace = HasLongLine trace (limit - 1)
     ⊎ HasTooManyRows moments (beginning first) (records_of trace) ⊎ (2 ^ 64 ≤ length trace + 1)
 
 -- the trace has this first fault, its input failed, or it is too long
-pub record IsFaultyLong (limit : ℕ) (script : List ℕ) (first : ℕ) (trace : List ℕ) (fault : TraceFault) : Type 0 where
+pub record IsFaultyLong (limit : ℕ) (script : List ℕ) (first : ℕ) (trace : List ℕ) (fault : RowFault) : Type 0 where
   pub contents : ScriptContents
   pub script_means : script_meaning script ≡ Ok contents
   pub why : (long_meaning (moments_in contents) first (records_of trace) ≡ Err fault)
@@ -70,7 +70,7 @@ module _ (limit : ℕ) (script : List ℕ) (first : ℕ) (trace : List ℕ) (bef
   WroteFront = (text : List ℕ) × IsFrontOf script first trace text × Appends before after text
 
   -- what was written is whole rows, unless the output failed; nothing, if the script has a fault
-  abbrev pub StopsLong : AuditFault → Type 0
+  abbrev pub StopsLong : ReportFault → Type 0
   StopsLong (Script fault) = (script_meaning script ≡ Err fault) × Keeps before after
   StopsLong (Trace fault) = IsFaultyLong limit script first trace fault × WroteFront
   StopsLong Memory = Keeps before after ⊎ WroteFront

@@ -7,8 +7,8 @@ use Rattle.pmp_text.specs.Contents.{ScriptContents}
 use Rattle.pmp_text.specs.Moments.{moments_in}
 use Rattle.pmp_text.specs.LongTraces.{HasTooManyRows, Records, piece_fault, place_behind, too_long_for_rows}
 use Rattle.pmp_text.specs.Outcomes.{no_input_for_rows}
-use Rattle.pmp_audit.specs.declared.fault.AuditFault.{AuditFault}
-use Rattle.pmp_audit.specs.declared.fault.AuditFault.TheVariants.{Trace, Memory}
+use Rattle.pmp_audit.specs.declared.fault.ReportFault.{ReportFault}
+use Rattle.pmp_audit.specs.declared.fault.ReportFault.TheVariants.{Trace, Memory}
 use Rattle.pmp_audit.specs.declared.piece.PieceReport.{PieceReport}
 use Rattle.pmp_audit.specs.declared.standing.Standing.{Standing}
 use Rattle.pmp_audit.specs.LongAudit.{IsReportAt}
@@ -26,7 +26,7 @@ abbrev pub IsPieceReported : ScriptContents → Records → (old : Standing) →
 IsPieceReported script records old report = IsReported script records old report.behind (items_of report.texts.items)
 
 -- why records at this position have no report
-abbrev pub PieceFails : (script : ScriptContents) (records : Records) (old : Standing) → AuditFault → Type 0
+abbrev pub PieceFails : (script : ScriptContents) (records : Records) (old : Standing) → ReportFault → Type 0
 PieceFails script records old (Trace fault) = (piece_fault (moments_in script) old.place records ≡ Some fault)
     ⊎ (fault ≡ no_input_for_rows)
     ⊎ ((fault ≡ too_long_for_rows) × HasTooManyRows (moments_in script) old.place records)
@@ -34,5 +34,5 @@ PieceFails script records old Memory = ⊤
 PieceFails script records old _ = ⊥
 
 -- an input that gives no piece is a fault of the trace
-abbrev pub fault_of_cut : Refusal → AuditFault
+abbrev pub fault_of_cut : Refusal → ReportFault
 fault_of_cut refusal = fault_of_trace (at_row 0 (as_whole refusal))

@@ -19,7 +19,7 @@ use Rattle.pmp_text.specs.Moments.{KnownMoments}
 use Rattle.pmp_text.specs.declared.policy.Demand.{Demand}
 use Rattle.pmp_text.specs.declared.policy.Demand.TheVariants.{Never, Always, Held}
 use Rattle.pmp_text.specs.declared.policy.PolicyRow.{PolicyRow}
-use Rattle.pmp_text.specs.declared.trace.TraceFault.{TraceFault}
+use Rattle.pmp_text.specs.declared.trace.RowFault.{RowFault}
 use Rattle.pmp_text.specs.Contents.{ScriptContents}
 use Rattle.pmp_text.specs.Outcomes.{no_input_for_rows}
 use Rattle.pmp_text.specs.declared.policy.row_fields.PolicyFields.{PolicyFields}
@@ -28,8 +28,8 @@ use Rattle.pmp_text.specs.Reports.{file_behind}
 use Rattle.pmp_text.specs.Scripts.{script_meaning}
 use Rattle.pmp_text.specs.Flaws.{at_row}
 use Rattle.pmp_text.specs.Verdicts.{verdict_row}
-use Rattle.pmp_audit.specs.declared.fault.AuditFault.{AuditFault}
-use Rattle.pmp_audit.specs.declared.fault.AuditFault.TheVariants.{Policy, Script}
+use Rattle.pmp_audit.specs.declared.fault.ReportFault.{ReportFault}
+use Rattle.pmp_audit.specs.declared.fault.ReportFault.TheVariants.{Policy, Script}
 use Rattle.pmp_audit.specs.declared.policy_check.steps.Pace.{Pace}
 use Rattle.pmp_audit.specs.declared.policy_check.steps.Pace.TheVariants.{Publications, Events}
 use Rattle.pmp_audit.specs.Moments.{AreMoments}
@@ -150,7 +150,7 @@ pub record VerdictSays (pace : Pace) (script : List ℕ) (number : ℕ) (fields 
   pub text_is : text ≡ verdict_row number verdict None
 
 -- the script's own fault, or else that of the row with this number
-abbrev pub VerdictRefuses : (script : List ℕ) → (number : ℕ) → PolicyFields → AuditFault → Type 0
+abbrev pub VerdictRefuses : (script : List ℕ) → (number : ℕ) → PolicyFields → ReportFault → Type 0
 VerdictRefuses script number fields (Script fault) = script_meaning script ≡ Err fault
 VerdictRefuses script number fields (Policy fault) =
     (contents : ScriptContents) × (script_meaning script ≡ Ok contents)
@@ -160,7 +160,7 @@ VerdictRefuses script number fields _ = ⊥
 -- ---- a faulty policy
 
 -- the script has no fault, and the policy has this one, or its input failed
-pub record IsFaultyPolicy (script policy : List ℕ) (fault : TraceFault) : Type 0 where
+pub record IsFaultyPolicy (script policy : List ℕ) (fault : RowFault) : Type 0 where
   pub contents : ScriptContents
   pub script_means : script_meaning script ≡ Ok contents
   pub moments : KnownMoments
@@ -168,7 +168,7 @@ pub record IsFaultyPolicy (script policy : List ℕ) (fault : TraceFault) : Type
   pub policy_means : (policy_meaning moments policy ≡ Err fault) ⊎ (fault ≡ no_input_for_rows)
 
 -- the script's own fault, or else the policy's
-abbrev pub PolicyRefuses : (script policy : List ℕ) → AuditFault → Type 0
+abbrev pub PolicyRefuses : (script policy : List ℕ) → ReportFault → Type 0
 PolicyRefuses script policy (Script fault) = script_meaning script ≡ Err fault
 PolicyRefuses script policy (Policy fault) = IsFaultyPolicy script policy fault
 PolicyRefuses script policy _ = ⊥

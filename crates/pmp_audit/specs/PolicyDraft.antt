@@ -17,8 +17,8 @@ use Rattle.pmp_text.specs.Reports.{fields_after}
 use Rattle.pmp_text.specs.Scripts.{script_meaning}
 use Rattle.pmp_lint.specs.EndState.{end_of}
 use Rattle.pmp_lint.specs.Findings.{address_text}
-use Rattle.pmp_audit.specs.declared.fault.AuditFault.{AuditFault}
-use Rattle.pmp_audit.specs.declared.fault.AuditFault.TheVariants.{Script}
+use Rattle.pmp_audit.specs.declared.fault.ReportFault.{ReportFault}
+use Rattle.pmp_audit.specs.declared.fault.ReportFault.TheVariants.{Script}
 use Rattle.pmp_audit.specs.declared.policy_check.steps.Pace.{Pace}
 use Rattle.pmp_audit.specs.ClosedRanges.{AreClosedRanges}
 use Rattle.pmp_audit.specs.Moments.{AreMoments}
@@ -106,6 +106,6 @@ abbrev pub DraftSays : (script : List ℕ) → Unit {0} → (text : List ℕ) �
 DraftSays script _ text = IsDraftOf script text
 
 -- the script's own fault
-abbrev pub DraftRefuses : (script : List ℕ) → AuditFault → Type 0
+abbrev pub DraftRefuses : (script : List ℕ) → ReportFault → Type 0
 DraftRefuses script (Script fault) = script_meaning script ≡ Err fault
 DraftRefuses script _ = ⊥

@@ -8,27 +8,27 @@ use Rattle.pmp_share.specs.declared.knowledge.Known.{Known}
 use Rattle.pmp_share.specs.Batches.{file_from}
 use Rattle.pmp_share.specs.Known.{known}
 use Rattle.pmp_share.specs.Tokens.{PublisherToken, UnitId}
-use Rattle.pmp_text.specs.declared.trace.Row.{Row}
+use Rattle.pmp_text.specs.declared.trace.TraceRow.{TraceRow}
 use Rattle.pmp_text.specs.Contents.{ScriptContents}
 use Rattle.pmp_text.specs.Reports.{file_of_script}
 use Rattle.pmp_text.specs.TraceFaults.{IsInOrder, afters}
 use Rattle.pmp_text.specs.Traces.{row_fields}
-use Rattle.pmp_audit.specs.declared.fault.AuditFault.{AuditFault}
+use Rattle.pmp_audit.specs.declared.fault.ReportFault.{ReportFault}
 use Rattle.pmp_audit.specs.declared.shared_audit.job.Job.{Job}
 use Rattle.pmp_audit.specs.declared.shared_audit.job.Done.{Done}
 use Rattle.pmp_audit.specs.Working.{IsDealt, IsDone, StopsRound}
 
 -- the leading rows that ask for exactly `after` publications
-abbrev pub asking : (after : ℕ) → List Row → List Row
+abbrev pub asking : (after : ℕ) → List TraceRow → List TraceRow
 asking after [] = []
 asking after (row ∷ rows) = if row.after == after then row ∷ asking after rows else []
 
 -- the decision of a row in the file that it asks for
-abbrev pub decision_for : ScriptContents → Row → Decision
+abbrev pub decision_for : ScriptContents → TraceRow → Decision
 decision_for script row = decision_of (file_of_script script row.after) row.access
 
 -- the rows so far are decided, and the others ask for at least `after` publications, in order
-pub record AreDecidedSoFar (script : ScriptContents) (rows : List Row) (after : ℕ) (decided : List Decision)
+pub record AreDecidedSoFar (script : ScriptContents) (rows : List TraceRow) (after : ℕ) (decided : List Decision)
     : Type 0 where
   pub within : length decided ≤ length rows
   pub decisions : decided ≡ map (decision_for script) (take (length decided) rows)
@@ -51,16 +51,16 @@ pub record AreJobs (publisher : PublisherToken) (count : ℕ) (jobs : List Job) 
   pub each : (worker : ℕ) (job : Job) → slice_get jobs worker ≡ Some job → IsJob publisher worker job
 
 -- a worker's result for its job: its rows of the round are decided, or something stopped it
-pub record IsResult (workers first : ℕ) (rows : List Row) (job : Job) (result : Result Done AuditFault) : Type 0 where
+pub record IsResult (workers first : ℕ) (rows : List TraceRow) (job : Job) (result : Result Done ReportFault) : Type 0 where
   pub done : IfOk result (IsDone job.checker.unit (file_from job.checker.unit.base job.notice.list) job.worker workers
       first rows)
   pub refused : IfErr result (StopsRound job.notice.list)
 
 -- each job has such a result, at the job's place
-pub record AreResults (workers first : ℕ) (rows : List Row) (jobs : List Job) (results : List (Result Done AuditFault))
+pub record AreResults (workers first : ℕ) (rows : List TraceRow) (jobs : List Job) (results : List (Result Done ReportFault))
     : Type 0 where
   pub many : length results ≡ length jobs
-  pub each : (i : ℕ) (d : Result Done AuditFault) → i < length jobs → (job : Job)
+  pub each : (i : ℕ) (d : Result Done ReportFault) → i < length jobs → (job : Job)
       × ((e : Job) → slice_index_or jobs i e ≡ job) × IsResult workers first rows job (slice_index_or results i d)
 
 -- each worker returns its share of these decisions; the first decision's row is numbered `first`

@@ -11,8 +11,8 @@ use Rattle.pmp_text.specs.Changes.{change_count, change_rows}
 use Rattle.pmp_text.specs.Contents.{ScriptContents}
 use Rattle.pmp_text.specs.Reports.{file_of_script}
 use Rattle.pmp_text.specs.Scripts.{script_meaning}
-use Rattle.pmp_audit.specs.declared.fault.AuditFault.{AuditFault}
-use Rattle.pmp_audit.specs.declared.fault.AuditFault.TheVariants.{Script, BadAfter, NoMoment, ScriptOf, BadAfterOf, NoMomentOf}
+use Rattle.pmp_audit.specs.declared.fault.ReportFault.{ReportFault}
+use Rattle.pmp_audit.specs.declared.fault.ReportFault.TheVariants.{Script, BadAfter, NoMoment, ScriptOf, BadAfterOf, NoMomentOf}
 use Rattle.pmp_audit.specs.declared.fault.Side.TheVariants.{Old, New}
 use Rattle.pmp_audit.specs.declared.script_diff.AskedChanges.{AskedChanges}
 use Rattle.pmp_audit.specs.AskedFile.{FileRefuses, IsAsked}
@@ -62,13 +62,13 @@ pub record DiffSays (old : List ℕ) (old_after : Option When) (new : List ℕ) 
 
 -- the new script is refused like any other, if the old one gives a file
 abbrev pub NewRefuses : (old : List ℕ) → (old_after : Option When) → (new : List ℕ) → (new_after : Option When)
-    → AuditFault → Type 0
+    → ReportFault → Type 0
 NewRefuses old old_after new new_after fault =
     ((file : RegisterFile) × GivesFile old old_after file) × FileRefuses new new_after fault
 
 -- the old script's own fault, or it lacks what is asked for; then the same of the new one
 abbrev pub DiffRefuses : (old : List ℕ) → (old_after : Option When) → (new : List ℕ) → (new_after : Option When)
-    → AuditFault → Type 0
+    → ReportFault → Type 0
 DiffRefuses old old_after new new_after (ScriptOf Old fault) = FileRefuses old old_after (Script fault)
 DiffRefuses old old_after new new_after (BadAfterOf Old) = FileRefuses old old_after BadAfter
 DiffRefuses old old_after new new_after (NoMomentOf Old) = FileRefuses old old_after NoMoment

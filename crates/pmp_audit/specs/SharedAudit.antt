@@ -7,8 +7,8 @@ use Rattle.pmp_text.specs.Contents.{ScriptContents}
 use Rattle.pmp_text.specs.Moments.{moments_in}
 use Rattle.pmp_text.specs.Scripts.{script_meaning}
 use Rattle.pmp_text.specs.Traces.{trace_meaning}
-use Rattle.pmp_audit.specs.declared.fault.AuditFault.{AuditFault}
-use Rattle.pmp_audit.specs.declared.fault.AuditFault.TheVariants.{Share, Moved, Memory}
+use Rattle.pmp_audit.specs.declared.fault.ReportFault.{ReportFault}
+use Rattle.pmp_audit.specs.declared.fault.ReportFault.TheVariants.{Share, Moved, Memory}
 use Rattle.pmp_audit.specs.TraceAudit.{AuditRefuses}
 
 -- neither the script nor the trace has a fault
@@ -23,14 +23,14 @@ abbrev pub SawMore : Batches → List RowFields → (seen : ℕ) → Type 0
 SawMore batches rows seen = Any (λ row. event_count (take row.after batches) < seen) rows
 
 -- what may stop it without a fault: no memory, no place in the unit, or more events than a row asks for
-abbrev pub MayStop : Batches → List RowFields → AuditFault → Type 0
+abbrev pub MayStop : Batches → List RowFields → ReportFault → Type 0
 MayStop batches rows Memory = ⊤
 MayStop batches rows (Share NoPlace) = ⊤
 MayStop batches rows (Moved moved) = SawMore batches rows moved.seen
 MayStop batches rows _ = ⊥
 
 -- as an audit on one thread; or without a fault, if the unit has no place, or more events than a row asks for
-abbrev pub SharedAuditRefuses : (script trace : List ℕ) → AuditFault → Type 0
+abbrev pub SharedAuditRefuses : (script trace : List ℕ) → ReportFault → Type 0
 SharedAuditRefuses script trace (Share NoPlace) = AreFaultless script trace
 SharedAuditRefuses script trace (Moved moved) =
     (inputs : AreFaultless script trace) × SawMore inputs.contents.batches inputs.rows moved.seen

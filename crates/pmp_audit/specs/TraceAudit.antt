@@ -1,21 +1,21 @@
 -- What an audit reports on a trace, and when it refuses.
 use Rattle.std.specs.Prelude.{◌≡◌, ◌⊎◌, ℕ, List, length, count_by, not, Ok, Err}
 use Rattle.pmp_core.specs.declared.decision.Decision.{Decision}
-use Rattle.pmp_text.specs.declared.trace.Row.{Row}
-use Rattle.pmp_text.specs.declared.trace.TraceFault.{TraceFault}
+use Rattle.pmp_text.specs.declared.trace.TraceRow.{TraceRow}
+use Rattle.pmp_text.specs.declared.trace.RowFault.{RowFault}
 use Rattle.pmp_text.specs.Contents.{ScriptContents}
 use Rattle.pmp_text.specs.Moments.{moments_in}
 use Rattle.pmp_text.specs.Outcomes.{no_input_for_rows}
 use Rattle.pmp_text.specs.Reports.{IsReport, report_text}
 use Rattle.pmp_text.specs.Scripts.{script_meaning}
 use Rattle.pmp_text.specs.Traces.{first_bare, trace_meaning}
-use Rattle.pmp_audit.specs.declared.fault.AuditFault.{AuditFault}
-use Rattle.pmp_audit.specs.declared.fault.AuditFault.TheVariants.{Script, Trace}
-use Rattle.pmp_audit.specs.declared.trace_audit.Summary.{Summary}
+use Rattle.pmp_audit.specs.declared.fault.ReportFault.{ReportFault}
+use Rattle.pmp_audit.specs.declared.fault.ReportFault.TheVariants.{Script, Trace}
+use Rattle.pmp_audit.specs.declared.trace_audit.AuditSummary.{AuditSummary}
 
 -- the number of rows decided, of those refused, and the number of the first whose start is bare; rows are numbered from
 -- `first`
-abbrev pub summary_of : (first : ℕ) → List Row → List Decision → Summary
+abbrev pub summary_of : (first : ℕ) → List TraceRow → List Decision → AuditSummary
 summary_of first rows decisions = record {
   rows = length decisions;
   faults = count_by (λ decision. not decision.allowed) decisions;
@@ -23,25 +23,25 @@ summary_of first rows decisions = record {
 }
 
 -- the text is the report of rows with these decisions, and the decisions are counted
-pub record ReportSays (rows : List Row) (decisions : List Decision) (summary : Summary) (text : List ℕ) : Type 0 where
+pub record ReportSays (rows : List TraceRow) (decisions : List Decision) (summary : AuditSummary) (text : List ℕ) : Type 0 where
   pub report : text ≡ report_text rows decisions
   pub counted : summary ≡ summary_of 1 rows decisions
 
 -- the script has these contents, the text is its report for the trace, and the report's decisions are counted
-pub record AuditSays (script trace : List ℕ) (summary : Summary) (text : List ℕ) : Type 0 where
+pub record AuditSays (script trace : List ℕ) (summary : AuditSummary) (text : List ℕ) : Type 0 where
   pub contents : ScriptContents
   pub script_means : script_meaning script ≡ Ok contents
   pub report : IsReport contents trace text
   pub counted : summary ≡ summary_of 1 report.rows report.decisions
 
 -- the script has no fault, and the trace has this one, or its input failed
-pub record IsFaultyTrace (script trace : List ℕ) (fault : TraceFault) : Type 0 where
+pub record IsFaultyTrace (script trace : List ℕ) (fault : RowFault) : Type 0 where
   pub contents : ScriptContents
   pub script_means : script_meaning script ≡ Ok contents
   pub trace_means : (trace_meaning (moments_in contents) trace ≡ Err fault) ⊎ (fault ≡ no_input_for_rows)
 
 -- the script's own fault, or else the trace's
-abbrev pub AuditRefuses : (script trace : List ℕ) → AuditFault → Type 0
+abbrev pub AuditRefuses : (script trace : List ℕ) → ReportFault → Type 0
 AuditRefuses script trace (Script fault) = script_meaning script ≡ Err fault
 AuditRefuses script trace (Trace fault) = IsFaultyTrace script trace fault
 AuditRefuses script trace _ = ⊥

@@ -7,10 +7,10 @@ use Rattle.pmp_core.specs.declared.decision.Decision.{Decision}
 use Rattle.pmp_core.specs.Ranges.{decision_of}
 use Rattle.pmp_core.specs.RegisterFile.{RegisterFile}
 use Rattle.pmp_share.specs.Batches.{Batches, StartsWith, event_count, file_from}
-use Rattle.pmp_text.specs.declared.trace.Row.{Row}
+use Rattle.pmp_text.specs.declared.trace.TraceRow.{TraceRow}
 use Rattle.pmp_share.specs.declared.fault.ShareFault.TheVariants.{NoPlace}
-use Rattle.pmp_audit.specs.declared.fault.AuditFault.{AuditFault}
-use Rattle.pmp_audit.specs.declared.fault.AuditFault.TheVariants.{Share, Moved, Memory}
+use Rattle.pmp_audit.specs.declared.fault.ReportFault.{ReportFault}
+use Rattle.pmp_audit.specs.declared.fault.ReportFault.TheVariants.{Share, Moved, Memory}
 use Rattle.pmp_audit.specs.declared.shared_audit.job.Done.{Done}
 
 -- a worker has the items whose place modulo the number of workers is its own, in order
@@ -27,18 +27,18 @@ pub record HasLearnt (known : Known) (count : ℕ) (file : RegisterFile) : Type 
   pub reached : count ≤ event_count known.list
 
 -- what may stop a round, or one of its workers, that was told of these batches
-abbrev pub StopsRound : Batches → AuditFault → Type 0
+abbrev pub StopsRound : Batches → ReportFault → Type 0
 StopsRound told Memory = ⊤
 StopsRound told (Share NoPlace) = ⊤
 StopsRound told (Moved moved) = event_count told < moved.seen
 StopsRound told _ = ⊥
 
-abbrev pub decided_in : RegisterFile → List Row → List Decision
+abbrev pub decided_in : RegisterFile → List TraceRow → List Decision
 decided_in file rows = map (λ row. decision_of file row.access) rows
 
 -- a worker's checker is of the same unit, and it returns the decisions in this file on the worker's rows, with their
 -- numbers, which begin at `first` for all rows
-pub record IsDone (unit : UnitId) (file : RegisterFile) (worker workers first : ℕ) (rows : List Row) (done : Done)
+pub record IsDone (unit : UnitId) (file : RegisterFile) (worker workers first : ℕ) (rows : List TraceRow) (done : Done)
     : Type 0 where
   pub same_unit : done.checker.unit ≡ unit
   pub dealt : IsDealt worker workers (enumerate_from first (decided_in file rows)) done.decisions.items

@@ -11,8 +11,8 @@ use Rattle.pmp_text.specs.Contents.{ScriptContents}
 use Rattle.pmp_text.specs.Effects.{effect_row}
 use Rattle.pmp_text.specs.Scripts.{script_meaning}
 use Rattle.pmp_audit.specs.AcceptedReasons.{has_other_reason}
-use Rattle.pmp_audit.specs.declared.fault.AuditFault.{AuditFault}
-use Rattle.pmp_audit.specs.declared.fault.AuditFault.TheVariants.{Script}
+use Rattle.pmp_audit.specs.declared.fault.ReportFault.{ReportFault}
+use Rattle.pmp_audit.specs.declared.fault.ReportFault.TheVariants.{Script}
 use Rattle.pmp_audit.specs.declared.write_list.EventSummary.{EventSummary}
 use Rattle.pmp_audit.specs.declared.write_list.WriteSummary.{WriteSummary}
 use Rattle.pmp_audit.specs.Expectations.{differing, expected_rows}
@@ -93,6 +93,6 @@ pub record WritesSay (accepted : List ℕ) (script : List ℕ) (summary : WriteS
   pub counted : summary ≡ write_summary accepted contents
 
 -- the script's own fault
-abbrev pub WritesRefuse : (script : List ℕ) → AuditFault → Type 0
+abbrev pub WritesRefuse : (script : List ℕ) → ReportFault → Type 0
 WritesRefuse script (Script fault) = script_meaning script ≡ Err fault
 WritesRefuse script _ = ⊥

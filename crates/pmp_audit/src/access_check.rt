@@ -6,7 +6,7 @@ ghost use Rattle.pmp_audit.specs.Answers.{Declines, IsAppended, IsWritten, IsRef
 ghost use Rattle.pmp_audit.specs.AskedFile.{FileRefuses};
 
 use crate::answer::write_answer;
-use crate::fault::AuditFault;
+use crate::fault::ReportFault;
 use crate::replay::file_after;
 use pmp_core::{Access, Decision};
 use pmp_text::{EventLog, GrowingLog, Sink, When, write_row};
@@ -19,13 +19,13 @@ use std::io::Write;
 /// The row is complete before its first byte is written, so every refusal but `Output` leaves the output untouched.
 #[tactic(auto, using(crate::proofs::WrittenAnswers::answer_rules))]
 #[inline(never)]
-pub fn check<W: Write>(
+pub fn check_after<W: Write>(
     alloc: Global,
     script: &[u8],
     access: &Access,
     after: Option<When>,
     writer: &mut W,
-) -> Result<Decision, AuditFault>
+) -> Result<Decision, ReportFault>
     ensures ok { IfOk result
         (IsWritten (CheckSays script.now access.now after) (W.contents writer.old) (W.contents writer.new)) }
     ensures err { IfErr result
@@ -37,7 +37,7 @@ pub fn check<W: Write>(
     write_answer(writer, &row, decision)
 }
 
-/// Appends the row that `check` writes. The log keeps the script's events; `Memory` means that there is no room for
+/// Appends the row that `check_after` writes. The log keeps the script's events; `Memory` means that there is no room for
 /// them there, or none for the row.
 pub fn append_check<L: EventLog, S: Sink>(
     log: &mut L,
@@ -45,7 +45,7 @@ pub fn append_check<L: EventLog, S: Sink>(
     access: &Access,
     after: Option<When>,
     out: &mut S,
-) -> Result<Decision, AuditFault>
+) -> Result<Decision, ReportFault>
     ensures ok { IfOk result
         (IsAppended (CheckSays script.now access.now after) (S.text out.old) (S.text out.new)) }
     ensures err { IfErr result (Declines (FileRefuses script.now after)) }

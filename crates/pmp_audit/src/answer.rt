@@ -2,11 +2,11 @@
 
 ghost use Rattle.std.specs.Prelude.{◌≡◌, ◌⊎◌, IfOk, IfErr, OnErr, OnOk, Ok, Err};
 ghost use Rattle.std.specs.Io.KnownBytes.{Appends, Keeps};
-ghost use Rattle.pmp_audit.specs.declared.fault.AuditFault.TheVariants.{Output};
+ghost use Rattle.pmp_audit.specs.declared.fault.ReportFault.TheVariants.{Output};
 ghost use Rattle.pmp_text.specs.Bytes.{AppendsBeginning};
 ghost use Rattle.pmp_audit.specs.LongParts.{items_of};
 
-use crate::fault::AuditFault;
+use crate::fault::ReportFault;
 use pmp_text::{OutputFault, write_out};
 use std::io::Write;
 
@@ -14,8 +14,8 @@ use std::io::Write;
 pub fn write_answer<W: Write, A: Copy>(
     writer: &mut W,
     text: &[u8],
-    made: Result<A, AuditFault>,
-) -> Result<A, AuditFault>
+    made: Result<A, ReportFault>,
+) -> Result<A, ReportFault>
     ensures ok { IfOk result
         (λ given. (made ≡ Ok given) × Appends (W.contents writer.old) (W.contents writer.new) text.now) }
     ensures err { IfErr result

@@ -3,13 +3,13 @@
 ghost use Rattle.std.specs.Prelude.{◌≤◌, IfOk, IfErr, length};
 ghost use Rattle.pmp_audit.specs.AskedFile.{IsAsked, IsLacking};
 
-use crate::fault::AuditFault;
+use crate::fault::ReportFault;
 use crate::moments::moments_of;
-use pmp_text::{Script, When};
+use pmp_text::{ReadScript, When};
 
 /// Returns how many are done then, or the number of all if that is none; `BadAfter` if there are fewer, and `NoMoment`
 /// if the script has no such moment.
-pub fn asked_count(script: &Script, after: Option<When>) -> Result<u64, AuditFault>
+pub fn asked_count(script: &ReadScript, after: Option<When>) -> Result<u64, ReportFault>
     ensures within { IfOk result (λ count. count ≤ length script.now.batches) }
     ensures count { IfOk result (IsAsked after script.now) }
     ensures lacking { IfErr result (IsLacking after script.now) }
@@ -19,11 +19,11 @@ pub fn asked_count(script: &Script, after: Option<When>) -> Result<u64, AuditFau
         Some(When::Number(count)) => count,
         Some(When::Labelled(label)) => match moments_of(script).after(When::Labelled(label)) {
             Ok(count) => count,
-            Err(_) => return Err(AuditFault::NoMoment),
+            Err(_) => return Err(ReportFault::NoMoment),
         },
     };
     if count > script.batches() {
-        return Err(AuditFault::BadAfter);
+        return Err(ReportFault::BadAfter);
     }
     Ok(count)
 }

@@ -7,11 +7,11 @@ ghost use Rattle.pmp_audit.specs.Expectations.{differing, expected_rows, file_at
 use crate::accepted_reason::DIFFERS;
 use pmp_core::RegFile;
 use pmp_lint::is_accepted;
-use pmp_text::{Script, Sink, write_expected};
+use pmp_text::{ReadScript, Sink, write_expected};
 use std::alloc::AllocError;
 
 /// Advances the register file from its state after `done` events of the script to its state after `events`.
-fn advance(script: &Script, file: &mut RegFile, done: u64, events: u64)
+fn advance(script: &ReadScript, file: &mut RegFile, done: u64, events: u64)
     requires { file.old ≡ file_at_event script.now done }
     ensures { file.new ≡ file_at_event script.now events }
 {
@@ -29,7 +29,7 @@ fn advance(script: &Script, file: &mut RegFile, done: u64, events: u64)
 /// Appends a row for each expectation, and returns how many of them differ where that isn't accepted.
 pub fn write_expectations<S: Sink>(
     out: &mut S,
-    script: &Script,
+    script: &ReadScript,
     accepted: &[u8],
 ) -> Result<u64, AllocError>
     ensures rows { IfOk result (λ _. S.text out.new ≡ S.text out.old

@@ -9,12 +9,12 @@ mod parts;
 mod reporting;
 
 use crate::answer::write_texts;
-use crate::fault::AuditFault;
+use crate::fault::ReportFault;
 use crate::long_audit::parts::report_parts;
 use crate::long_audit::reporting::report_and_cut;
 use crate::standing::Standing;
-use crate::trace_audit::Summary;
-use pmp_text::{Cut, GrowingLog, Refusal, Script, cut_piece, read_script};
+use crate::trace_audit::AuditSummary;
+use pmp_text::{Cut, GrowingLog, Refusal, ReadScript, cut_piece, read_script_in};
 use std::alloc::Global;
 use std::io::{Read, Write};
 use std::thread::Threads;
@@ -22,7 +22,7 @@ use std::thread::Threads;
 /// The greatest piece that the program takes at a time, in bytes.
 pub const PIECE: usize = 1 << 23;
 
-/// Works as [`audit`](crate::audit), but on a trace of any length, whose first row has the number `first`, and in
+/// Works as [`audit_whole`](crate::audit_whole), but on a trace of any length, whose first row has the number `first`, and in
 /// memory for two pieces of at most `limit` bytes.
 ///
 /// The trace is cut at line ends. Each piece is decided and reported before the second one after it is taken, so any
@@ -42,14 +42,14 @@ pub fn audit_long<T: Threads + Sync, R: Read, W: Write>(
     limit: usize,
     reader: &mut R,
     writer: &mut W,
-) -> Result<Summary, AuditFault>
+) -> Result<AuditSummary, ReportFault>
     ensures ok { IfOk result (λ summary. (trace : List ℕ) × IfSome (R.remaining reader.old) (λ those. trace ≡ those)
         × IsWritten (LongAuditSays script.now first trace) (W.contents writer.old) (W.contents writer.new) summary) }
     ensures err { IfErr result (λ fault. (trace : List ℕ) × IfSome (R.remaining reader.old) (λ those. trace ≡ those)
         × StopsLong limit script.now first trace (W.contents writer.old) (W.contents writer.new) fault) }
 {
     let mut log = GrowingLog::new(alloc);
-    let parsed = read_script(&mut log, script)?;
+    let parsed = read_script_in(&mut log, script)?;
     audit_pieces(rt, alloc, jobs, &parsed, first, limit, reader, writer)
 }
 
@@ -58,12 +58,12 @@ fn audit_pieces<T: Threads + Sync, R: Read, W: Write>(
     rt: &T,
     alloc: Global,
     jobs: usize,
-    script: &Script,
+    script: &ReadScript,
     first: u64,
     limit: usize,
     reader: &mut R,
     writer: &mut W,
-) -> Result<Summary, AuditFault>
+) -> Result<AuditSummary, ReportFault>
     ensures ok { (text : List ℕ) → script_meaning text ≡ Ok script.now → IfOk result (λ summary.
         (trace : List ℕ) × IfSome (R.remaining reader.old) (λ those. trace ≡ those)
         × IsWritten (LongAuditSays text first trace) (W.contents writer.old) (W.contents writer.new) summary) }
@@ -90,8 +90,10 @@ fn audit_pieces<T: Threads + Sync, R: Read, W: Write>(
                 write_texts(writer, &report.texts)?;
                 return report.behind.end(first);
             }
-            Err(refusal) => return Err(AuditFault::from(refusal.whole().at_row(0))),
+            Err(fault) => {
+                return Err(ReportFault::from(Refusal::from(fault).whole().at_row(0)));
+            }
         }
     }
-    Err(AuditFault::from(Refusal::TooLong.whole().at_row(0)))
+    Err(ReportFault::from(Refusal::TooLong.whole().at_row(0)))
 }

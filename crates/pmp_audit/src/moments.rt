@@ -6,7 +6,7 @@ ghost use Rattle.pmp_audit.specs.Moments.{AllLast, AreMoments};
 
 use crate::replay::Replay;
 use pmp_core::{Csr, RegFile};
-use pmp_text::{Lasting, Moments, Script};
+use pmp_text::{Lasting, Moments, ReadScript};
 
 /// Returns since when it holds after `done` publications, if before that it held since `before`.
 fn since(before: Option<u64>, holds: bool, done: u64) -> Option<u64>
@@ -28,7 +28,7 @@ fn lasting_with(before: &Lasting, file: &RegFile, done: u64) -> Lasting
 }
 
 /// Returns since when each condition lasts to the script's end.
-fn lasting(script: &Script<'_>) -> Lasting
+fn lasting(script: &ReadScript<'_>) -> Lasting
     ensures { AllLast script.now (length script.now.batches) result }
 {
     let mut replay = Replay::new(script);
@@ -41,7 +41,7 @@ fn lasting(script: &Script<'_>) -> Lasting
 }
 
 /// Returns the moments of a script that words may name.
-pub fn moments_of<'a>(script: &Script<'a>) -> Moments<'a>
+pub fn moments_of<'a>(script: &ReadScript<'a>) -> Moments<'a>
     ensures { AreMoments script.now result }
 {
     let mut moments = script.moments();

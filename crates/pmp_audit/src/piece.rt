@@ -5,11 +5,11 @@ ghost use Rattle.pmp_text.specs.Moments.{moments_in};
 ghost use Rattle.pmp_text.specs.Tables.{records_of};
 ghost use Rattle.pmp_audit.specs.LongPieces.{IsPieceReported, PieceFails};
 
-use crate::fault::AuditFault;
+use crate::fault::ReportFault;
 use crate::replay::Replay;
 use crate::report::list_row;
 use crate::standing::Standing;
-use pmp_text::{RowReader, Script};
+use pmp_text::{RowReader, ReadScript};
 use std::alloc::Global;
 
 /// The report of a piece, text by text, and where the next piece begins.
@@ -22,10 +22,10 @@ pub struct PieceReport {
 /// Decides the remaining rows in place, each as soon as it is read.
 fn report_rows(
     alloc: Global,
-    script: &Script,
+    script: &ReadScript,
     rows: &mut RowReader<'_>,
     standing: Standing,
-) -> Result<PieceReport, AuditFault>
+) -> Result<PieceReport, ReportFault>
     requires moments { rows.old.moments ≡ moments_in script.now }
     requires place { rows.old.place ≡ standing.place }
     requires header { standing.place.begun ≡ false → rows.old.records ≡ [] }
@@ -56,10 +56,10 @@ fn report_rows(
 /// Reads a piece in place, and decides its rows. Besides the report only one record takes memory.
 pub fn report_piece(
     alloc: Global,
-    script: &Script,
+    script: &ReadScript,
     text: &[u8],
     standing: Standing,
-) -> Result<PieceReport, AuditFault>
+) -> Result<PieceReport, ReportFault>
     requires { standing.faults ≤ standing.place.next }
     ensures ok { IfOk result (IsPieceReported script.now (records_of text.now) standing) }
     ensures err { IfErr result (PieceFails script.now (records_of text.now) standing) }

@@ -20,14 +20,14 @@ mod steps;
 mod sweep;
 
 use crate::answer::write_answer;
-use crate::fault::AuditFault;
+use crate::fault::ReportFault;
 use crate::moments::moments_of;
 use crate::policy_check::breach_list::breaches_of;
 use crate::policy_check::steps::Steps;
 use crate::policy_check::sweep::{Judged, judge, judge_rows};
 use pmp_text::{
-    Breach, EventLog, GrowingLog, Label, PolicyFields, PolicyRow, Script, Sink, Verdict,
-    read_policy, read_script, write_verdict,
+    Breach, EventLog, GrowingLog, Label, PolicyFields, PolicyRow, ReadScript, Sink, Verdict,
+    read_policy, read_script_in, write_verdict,
 };
 use std::alloc::{AllocError, Global};
 use std::io::Write;
@@ -67,7 +67,7 @@ pub fn check_policy<W: Write>(
     script: &[u8],
     policy: &[u8],
     writer: &mut W,
-) -> Result<PolicySummary, AuditFault>
+) -> Result<PolicySummary, ReportFault>
     ensures ok { IfOk result
         (IsWritten (PolicySays breaches pace script.now policy.now) (W.contents writer.old) (W.contents writer.new)) }
     ensures err { IfErr result
@@ -75,7 +75,7 @@ pub fn check_policy<W: Write>(
         (PolicyRefuses script.now policy.now)) }
 {
     let mut log = GrowingLog::new(alloc);
-    let script = read_script(&mut log, script)?;
+    let script = read_script_in(&mut log, script)?;
     check_rows(alloc, pace, breaches, &script, policy, writer)
 }
 
@@ -84,10 +84,10 @@ fn check_rows<W: Write>(
     alloc: Global,
     pace: Pace,
     breaches: Breaches,
-    script: &Script,
+    script: &ReadScript,
     policy: &[u8],
     writer: &mut W,
-) -> Result<PolicySummary, AuditFault>
+) -> Result<PolicySummary, ReportFault>
     ensures ok { (text : List ℕ) → script_meaning text ≡ Ok script.now → IfOk result
         (IsWritten (PolicySays breaches pace text policy.now) (W.contents writer.old) (W.contents writer.new)) }
     ensures err { (text : List ℕ) → script_meaning text ≡ Ok script.now → IfErr result
@@ -96,7 +96,7 @@ fn check_rows<W: Write>(
 {
     let policy = match read_policy(alloc, policy, &moments_of(script)) {
         Ok(policy) => policy,
-        Err(fault) => return Err(AuditFault::of_policy(fault)),
+        Err(fault) => return Err(ReportFault::of_policy(fault)),
     };
     let steps = Steps { script, pace };
     let judged = judge_rows(alloc, &steps, &policy.rows)?;
@@ -116,16 +116,16 @@ pub fn append_verdict<L: EventLog, S: Sink>(
     number: u64,
     fields: PolicyFields,
     out: &mut S,
-) -> Result<Verdict, AuditFault>
+) -> Result<Verdict, ReportFault>
     ensures ok { IfOk result
         (IsAppended (VerdictSays pace script.now number fields) (S.text out.old) (S.text out.new)) }
     ensures err { IfErr result (Declines (VerdictRefuses script.now number fields)) }
     ensures kept { OnErr result (S.text out.new ≡ S.text out.old) }
 {
-    let script = read_script(log, script)?;
+    let script = read_script_in(log, script)?;
     let row = match PolicyRow::new(script.batches(), fields) {
         Ok(row) => row,
-        Err(flaw) => return Err(AuditFault::Policy(flaw.at_row(number))),
+        Err(flaw) => return Err(ReportFault::Policy(flaw.at_row(number))),
     };
     let script = &script;
     let steps = Steps { script, pace };

@@ -12,13 +12,13 @@ mod closed_range;
 mod never_row;
 
 use crate::answer::write_answer;
-use crate::fault::AuditFault;
+use crate::fault::ReportFault;
 use crate::policy_draft::closed_range::closed_range_from;
 use crate::policy_draft::never_row::{LastMoment, NeverRow};
 use crate::replay::file_of;
 use pmp_core::{Kind, Mode, RegFile};
 use pmp_text::laws::law_script_size;
-use pmp_text::{EventLog, GrowingLog, MAX_TRACE, Script, Sink, append_line, read_script};
+use pmp_text::{EventLog, GrowingLog, MAX_TRACE, ReadScript, Sink, append_line, read_script_in};
 use std::alloc::{AllocError, Global};
 use std::io::Write;
 
@@ -32,7 +32,7 @@ const HEADER: &[u8] = b"from,to,modes,kind,first,last,demand\n";
 /// The text is complete before its first byte is written, so every refusal but `Output` leaves the output untouched.
 #[tactic(auto, using(crate::proofs::WrittenAnswers::answer_rules))]
 #[inline(never)]
-pub fn policy_from<W: Write>(alloc: Global, script: &[u8], writer: &mut W) -> Result<(), AuditFault>
+pub fn policy_from<W: Write>(alloc: Global, script: &[u8], writer: &mut W) -> Result<(), ReportFault>
     ensures ok { IfOk result
         (IsWritten (DraftSays script.now) (W.contents writer.old) (W.contents writer.new)) }
     ensures err { IfErr result
@@ -51,24 +51,24 @@ pub fn append_policy_from<L: EventLog, S: Sink>(
     log: &mut L,
     script: &[u8],
     out: &mut S,
-) -> Result<(), AuditFault>
+) -> Result<(), ReportFault>
     ensures ok { IfOk result (IsAppended (DraftSays script.now) (S.text out.old) (S.text out.new)) }
     ensures err { IfErr result (Declines (DraftRefuses script.now)) }
     ensures kept { OnErr result (S.text out.new ≡ S.text out.old) }
 {
-    let script = read_script(log, script)?;
+    let script = read_script_in(log, script)?;
     law_script_size();
     let before = out.position();
     let made = append_script(out, &script);
     if made.is_err() || out.position() - before > MAX_TRACE {
         out.go_back(before);
-        return Err(AuditFault::Memory);
+        return Err(ReportFault::Memory);
     }
     Ok(())
 }
 
 /// Appends the text for a script.
-fn append_script<S: Sink>(out: &mut S, script: &Script) -> Result<(), AllocError>
+fn append_script<S: Sink>(out: &mut S, script: &ReadScript) -> Result<(), AllocError>
     ensures ok { IfOk result (IsAppended (λ _. IsDraftText (end_of script.now) (last_moment script.now))
         (S.text out.old) (S.text out.new)) }
     ensures err { OnErr result (HasGrown (S.text out.old) (S.text out.new)) }

@@ -8,10 +8,10 @@ ghost use Rattle.pmp_audit.specs.WriteList.{WritesRefuse};
 
 use crate::answer::write_answer;
 use crate::asked_count::asked_count;
-use crate::fault::AuditFault;
+use crate::fault::ReportFault;
 use pmp_core::{Access, Decision};
 use pmp_lint::{append_history, append_lint, append_why, why};
-use pmp_text::{EventLog, GrowingLog, Sink, When, read_script};
+use pmp_text::{EventLog, GrowingLog, Sink, When, read_script_in};
 use std::alloc::Global;
 use std::io::Write;
 
@@ -26,7 +26,7 @@ pub fn explain<W: Write>(
     access: &Access,
     after: Option<When>,
     writer: &mut W,
-) -> Result<Decision, AuditFault>
+) -> Result<Decision, ReportFault>
     ensures ok { IfOk result
         (IsWritten (ReasonsSay script.now access.now after) (W.contents writer.old) (W.contents writer.new)) }
     ensures err { IfErr result
@@ -47,13 +47,13 @@ pub fn append_reasons<L: EventLog, S: Sink>(
     access: &Access,
     after: Option<When>,
     out: &mut S,
-) -> Result<Decision, AuditFault>
+) -> Result<Decision, ReportFault>
     ensures ok { IfOk result
         (IsAppended (ReasonsSay script.now access.now after) (S.text out.old) (S.text out.new)) }
     ensures err { IfErr result (Declines (FileRefuses script.now after)) }
     ensures kept { OnErr result (S.text out.new ≡ S.text out.old) }
 {
-    let script = read_script(log, script)?;
+    let script = read_script_in(log, script)?;
     let done = asked_count(&script, after)?;
     let before = out.position();
     let reason = why(&script, done, access);
@@ -75,7 +75,7 @@ pub fn lint<W: Write>(
     script: &[u8],
     accepted: &[u8],
     writer: &mut W,
-) -> Result<usize, AuditFault>
+) -> Result<usize, ReportFault>
     ensures ok { IfOk result
         (IsWritten (FindingsSay script.now accepted.now) (W.contents writer.old) (W.contents writer.new)) }
     ensures err { IfErr result
@@ -95,7 +95,7 @@ pub fn append_findings<L: EventLog, S: Sink>(
     script: &[u8],
     accepted: &[u8],
     out: &mut S,
-) -> Result<usize, AuditFault>
+) -> Result<usize, ReportFault>
     ensures ok { IfOk result
         (IsAppended (FindingsSay script.now accepted.now) (S.text out.old) (S.text out.new)) }
     ensures err { IfErr result (Declines (WritesRefuse script.now)) }

@@ -8,16 +8,16 @@ ghost use Rattle.pmp_audit.specs.ScriptDiff.{GivesFile};
 ghost use Rattle.pmp_audit.specs.Sides.{FailsFile};
 
 use crate::asked_count::asked_count;
-use crate::fault::AuditFault;
+use crate::fault::ReportFault;
 use pmp_core::{Access, Decision, RegFile};
 use pmp_map::RunMap;
-use pmp_text::{EventLog, Script, When, read_script};
+use pmp_text::{EventLog, ReadScript, When, read_script_in};
 use std::marker::Model;
 
 /// A script whose first publications are executed. A contract sees the script, and the number of these publications.
 #[derive(Drop)]
 pub struct Replay<'a> {
-    script: &'a Script<'a>,
+    script: &'a ReadScript<'a>,
     done: u64,
     /// The register file that these give.
     file: RegFile,
@@ -42,7 +42,7 @@ impl<'a> Model for Replay<'a> {
 
 impl<'a> Replay<'a> {
     /// Returns the state before the first publication.
-    pub fn new(script: &'a Script<'a>) -> Replay<'a>
+    pub fn new(script: &'a ReadScript<'a>) -> Replay<'a>
         ensures { result ≡ record { script = script.now; done = 0 } }
     {
         Replay {
@@ -102,7 +102,7 @@ impl<'a> Replay<'a> {
 }
 
 /// The register file after the first `count` publications.
-pub fn file_of(script: &Script, count: u64) -> RegFile
+pub fn file_of(script: &ReadScript, count: u64) -> RegFile
     requires { count ≤ length script.now.batches }
     ensures { result ≡ file_of_script script.now count }
 {
@@ -116,11 +116,11 @@ pub fn file_after<L: EventLog>(
     log: &mut L,
     script: &[u8],
     after: Option<When>,
-) -> Result<RegFile, AuditFault>
+) -> Result<RegFile, ReportFault>
     ensures ok { IfOk result (λ file. GivesFile script.now after file) }
     ensures err { IfErr result (FailsFile script.now after) }
 {
-    let script = read_script(log, script)?;
+    let script = read_script_in(log, script)?;
     let count = asked_count(&script, after)?;
     Ok(file_of(&script, count))
 }

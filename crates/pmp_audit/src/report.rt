@@ -6,13 +6,13 @@ ghost use Rattle.pmp_text.specs.Reports.{report_row};
 ghost use Rattle.pmp_audit.specs.Report.{refused_count};
 
 use pmp_core::Decision;
-use pmp_text::{Row, write_row};
+use pmp_text::{TraceRow, write_row};
 use std::alloc::AllocError;
 
 /// Appends a report row for each row and its decision, numbered from 1, and returns how many accesses are refused.
 pub fn list_decisions(
     report: &mut Vec<u8>,
-    rows: &[Row],
+    rows: &[TraceRow],
     decisions: &[Decision],
 ) -> Result<u64, AllocError>
     requires { length decisions.now ≡ length rows.now }
@@ -31,7 +31,7 @@ pub fn list_decisions(
 pub fn list_row(
     report: &mut Vec<u8>,
     number: u64,
-    row: &Row,
+    row: &TraceRow,
     decision: &Decision,
 ) -> Result<u64, AllocError>
     ensures row { OnOk result

@@ -6,10 +6,10 @@ ghost use Rattle.pmp_audit.specs.Growing.{HasGrown};
 ghost use Rattle.pmp_core.specs.declared.access.TheConstants.{ADDRESS_LIMIT};
 ghost use Rattle.pmp_audit.specs.ScriptDiff.{ChangesSay, DiffRefuses, DiffSays, FilesSay, GivesFile, LocksSay};
 ghost use Rattle.pmp_audit.specs.Sides.{FailsFile, fault_on};
-ghost use Rattle.pmp_audit.specs.declared.fault.AuditFault.{AuditFault};
+ghost use Rattle.pmp_audit.specs.declared.fault.ReportFault.{ReportFault};
 
 use crate::answer::write_answer;
-use crate::fault::{AuditFault, Side};
+use crate::fault::{ReportFault, Side};
 use crate::replay::file_after;
 use pmp_core::{ADDRESS_LIMIT, RegFile, Registers};
 use pmp_map::{Aspect, compared_run_from};
@@ -44,7 +44,7 @@ pub fn diff<W: Write>(
     new_after: Option<When>,
     asked: AskedChanges,
     writer: &mut W,
-) -> Result<u64, AuditFault>
+) -> Result<u64, ReportFault>
     ensures ok { IfOk result
         (IsWritten (DiffSays old.now old_after new.now new_after asked)
         (W.contents writer.old) (W.contents writer.new)) }
@@ -68,7 +68,7 @@ pub fn append_diff<L: EventLog, S: Sink>(
     new_after: Option<When>,
     asked: AskedChanges,
     out: &mut S,
-) -> Result<u64, AuditFault>
+) -> Result<u64, ReportFault>
     ensures ok { IfOk result
         (IsAppended (DiffSays old.now old_after new.now new_after asked) (S.text out.old) (S.text out.new)) }
     ensures err { IfErr result (Declines (DiffRefuses old.now old_after new.now new_after)) }
@@ -164,10 +164,10 @@ fn file_on<L: EventLog>(
     log: &mut L,
     script: &[u8],
     after: Option<When>,
-) -> Result<RegFile, AuditFault>
+) -> Result<RegFile, ReportFault>
     ensures ok { IfOk result (λ file. GivesFile script.now after file) }
     ensures err { IfErr result (λ fault.
-        (why : AuditFault) × (fault ≡ fault_on side why) × FailsFile script.now after why) }
+        (why : ReportFault) × (fault ≡ fault_on side why) × FailsFile script.now after why) }
 {
     file_after(log, script, after).map_err(|fault| fault.on_side(side))
 }

@@ -17,30 +17,30 @@ mod running;
 mod working;
 
 use crate::answer::write_answer;
-use crate::fault::AuditFault;
+use crate::fault::ReportFault;
 use crate::gate::Gate;
 use crate::report::list_decisions;
-use crate::trace_audit::Summary;
+use crate::trace_audit::AuditSummary;
 use deciding::decide_shared;
 use pmp_core::laws::law_decided_by_ranges;
 use pmp_text::laws::{law_legal_start, law_script_size};
-use pmp_text::{GrowingLog, Script, read_script, read_trace};
+use pmp_text::{GrowingLog, ReadScript, read_script_in, read_trace_by};
 use std::alloc::Global;
 use std::io::Write;
 use std::sync::Wait;
 use std::thread::Threads;
 
-/// Works as [`audit`](crate::audit), with `k` workers, each with a checker of one unit and usually a thread of its own.
+/// Works as [`audit_whole`](crate::audit_whole), with `k` workers, each with a checker of one unit and usually a thread of its own.
 ///
 /// The script's publications are executed one at a time. Before the first and after each, the rows that ask for exactly
 /// these go to the workers: of the rows with the same `after`, worker `w` takes those whose index, from 0, modulo `k`
 /// is `w`. The next publication follows once all of them are decided. If no thread can be created, a worker's rows are
 /// decided on the calling thread, and so are those of workers that have few, if the gate doesn't wait.
 ///
-/// Besides the refusals of `audit` it may return `Share(NoPlace)` and `Moved`, both only if neither input has a fault.
+/// Besides the refusals of `audit_whole` it may return `Share(NoPlace)` and `Moved`, both only if neither input has a fault.
 /// In every case the workers have ended when it returns. It may wait.
 #[inline(never)]
-pub fn audit_shared<R: Threads + Wait + Sync, G: Gate + Sync, W: Write>(
+pub fn audit_by_workers<R: Threads + Wait + Sync, G: Gate + Sync, W: Write>(
     rt: &R,
     alloc: Global,
     gate: &G,
@@ -48,7 +48,7 @@ pub fn audit_shared<R: Threads + Wait + Sync, G: Gate + Sync, W: Write>(
     script: &[u8],
     trace: &[u8],
     writer: &mut W,
-) -> Result<Summary, AuditFault>
+) -> Result<AuditSummary, ReportFault>
     requires { (1 ≤ k) × (k ≤ CHECKERS) }
     ensures ok { IfOk result
         (IsWritten (AuditSays script.now trace.now) (W.contents writer.old) (W.contents writer.new)) }
@@ -57,7 +57,7 @@ pub fn audit_shared<R: Threads + Wait + Sync, G: Gate + Sync, W: Write>(
         (SharedAuditRefuses script.now trace.now)) }
 {
     let mut log = GrowingLog::new(alloc);
-    let script = read_script(&mut log, script)?;
+    let script = read_script_in(&mut log, script)?;
     law_script_size();
     audit_trace(rt, alloc, gate, k, &script, trace, writer)
 }
@@ -68,10 +68,10 @@ fn audit_trace<R: Threads + Wait + Sync, G: Gate + Sync, W: Write>(
     alloc: Global,
     gate: &G,
     k: u8,
-    script: &Script,
+    script: &ReadScript,
     trace: &[u8],
     writer: &mut W,
-) -> Result<Summary, AuditFault>
+) -> Result<AuditSummary, ReportFault>
     requires workers { (1 ≤ k) × (k ≤ CHECKERS) }
     requires size { IsInLimits script.now.batches }
     ensures ok { (text : List ℕ) → script_meaning text ≡ Ok script.now → IfOk result
@@ -80,11 +80,11 @@ fn audit_trace<R: Threads + Wait + Sync, G: Gate + Sync, W: Write>(
         (IsRefused (AuditSays text trace.now) (W.contents writer.old) (W.contents writer.new)
         (SharedAuditRefuses text trace.now)) }
 {
-    let rows = read_trace(alloc, trace, &script.moments())?;
+    let rows = read_trace_by(alloc, trace, &script.moments())?;
     let decisions = decide_shared(rt, alloc, gate, k, script, &rows)?;
     law_legal_start();
     law_decided_by_ranges();
     let mut report = Vec::new(alloc);
     let faults = list_decisions(&mut report, &rows, &decisions)?;
-    write_answer(writer, &report, Ok(Summary::of(&rows, faults)))
+    write_answer(writer, &report, Ok(AuditSummary::of(&rows, faults)))
 }

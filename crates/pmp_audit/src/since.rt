@@ -10,7 +10,7 @@ ghost use Rattle.pmp_audit.specs.SinceStep.{since_after};
 
 use crate::replay::Replay;
 use pmp_core::{Event, MAX_ENTRIES, RegFile};
-use pmp_text::{Script, Since};
+use pmp_text::{ReadScript, Since};
 
 fn are_writes(events: &[Event]) -> bool
     ensures { result ≡ list_all is_write events.now }
@@ -52,7 +52,7 @@ fn count_in(since: &mut [Since], file: &RegFile, are_writes: bool, done: u64)
 /// Returns the script after its first `count` publications, and for each entry that is frozen there the number of the
 /// publication that froze it, 0 if the script begins with it frozen: it has been frozen ever since. The same for each
 /// entry that is held, that is, it and all entries before it are frozen.
-pub fn since_of<'a>(script: &'a Script<'a>, count: u64) -> (Replay<'a>, [Since; MAX_ENTRIES])
+pub fn since_of<'a>(script: &'a ReadScript<'a>, count: u64) -> (Replay<'a>, [Since; MAX_ENTRIES])
     requires legal { IsLegal script.now.start }
     requires within { count ≤ length script.now.batches }
     ensures position { result.0 ≡ record { script = script.now; done = count } }

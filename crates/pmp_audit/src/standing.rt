@@ -5,10 +5,10 @@ ghost use Rattle.pmp_text.specs.LongTraces.{beginning};
 ghost use Rattle.pmp_text.specs.Flaws.{at_row};
 ghost use Rattle.pmp_text.specs.declared.refusal.Refusal.TheVariants.{BadHeader};
 ghost use Rattle.pmp_text.specs.Flaws.{as_whole};
-ghost use Rattle.pmp_audit.specs.declared.fault.AuditFault.TheVariants.{Trace};
+ghost use Rattle.pmp_audit.specs.declared.fault.ReportFault.TheVariants.{Trace};
 
-use crate::fault::AuditFault;
-use crate::trace_audit::Summary;
+use crate::fault::ReportFault;
+use crate::trace_audit::AuditSummary;
 use pmp_text::{Place, Refusal};
 
 /// Where the next piece begins, and how many accesses were refused before it.
@@ -30,7 +30,7 @@ impl Standing {
     }
 
     /// Returns, after the last piece, the accesses decided and refused. A trace without a record has no header.
-    pub fn end(self, first: u64) -> Result<Summary, AuditFault>
+    pub fn end(self, first: u64) -> Result<AuditSummary, ReportFault>
         requires { first ≤ self.place.next }
         ensures { MatchResult result
             (λ summary. (self.place.begun ≡ true)
@@ -38,9 +38,9 @@ impl Standing {
             (λ fault. (self.place.begun ≡ false) × (fault ≡ Trace (at_row 0 (as_whole BadHeader)))) }
     {
         if !self.place.begun {
-            return Err(AuditFault::Trace(Refusal::BadHeader.whole().at_row(0)));
+            return Err(ReportFault::Trace(Refusal::BadHeader.whole().at_row(0)));
         }
-        Ok(Summary {
+        Ok(AuditSummary {
             rows: self.place.next - first,
             faults: self.faults,
             bare: self.place.bare,

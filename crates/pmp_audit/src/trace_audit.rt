@@ -7,16 +7,16 @@ ghost use Rattle.pmp_audit.specs.Answers.{IsWritten, IsRefused};
 ghost use Rattle.pmp_audit.specs.TraceAudit.{AuditSays, AuditRefuses};
 
 use crate::answer::write_texts;
-use crate::fault::AuditFault;
+use crate::fault::ReportFault;
 use crate::piece::report_piece;
 use crate::standing::Standing;
-use pmp_text::{GrowingLog, MAX_TRACE, Refusal, Row, Script, read_script};
+use pmp_text::{GrowingLog, MAX_TRACE, Refusal, TraceRow, ReadScript, read_script_in};
 use std::alloc::Global;
 use std::io::Write;
 
 /// How many accesses an audit decided, and how many of them it refused.
 #[derive(Clone, Copy, Debug, Default, PartialEq, Eq)]
-pub struct Summary {
+pub struct AuditSummary {
     pub rows: u64,
     pub faults: u64,
     /// The number of the first row whose start is 14 digits without `0x`: a decimal number, though rows write
@@ -24,12 +24,12 @@ pub struct Summary {
     pub bare: Option<u64>,
 }
 
-impl Summary {
+impl AuditSummary {
     /// Returns the summary of these rows, numbered from 1, of which `faults` were refused.
-    pub(crate) fn of(rows: &[Row], faults: u64) -> Summary
+    pub(crate) fn of(rows: &[TraceRow], faults: u64) -> AuditSummary
         ensures { result ≡ record { rows = length rows.now; faults = faults; bare = first_bare 1 rows.now } }
     {
-        Summary {
+        AuditSummary {
             rows: rows.len() as u64,
             faults,
             bare: first_bare(rows),
@@ -38,14 +38,14 @@ impl Summary {
 }
 
 /// Returns the number of the first of these rows whose start is bare.
-fn first_bare(rows: &[Row]) -> Option<u64>
+fn first_bare(rows: &[TraceRow]) -> Option<u64>
     ensures { result ≡ first_bare 1 rows.now }
 {
     let place = bare_place(rows)?;
     Some(1 + place as u64)
 }
 
-fn bare_place(rows: &[Row]) -> Option<usize>
+fn bare_place(rows: &[TraceRow]) -> Option<usize>
     ensures place { result ≡ first_bare 0 rows.now }
     ensures inside { IfSome result (λ place. place < length rows.now) }
 {
@@ -59,12 +59,12 @@ fn bare_place(rows: &[Row]) -> Option<usize>
 /// refusal but `Output` leaves the output untouched. The time grows with the sum of the events and the rows, not with
 /// their product.
 #[inline(never)]
-pub fn audit<W: Write>(
+pub fn audit_whole<W: Write>(
     alloc: Global,
     script: &[u8],
     trace: &[u8],
     writer: &mut W,
-) -> Result<Summary, AuditFault>
+) -> Result<AuditSummary, ReportFault>
     ensures ok { IfOk result
         (IsWritten (AuditSays script.now trace.now) (W.contents writer.old) (W.contents writer.new)) }
     ensures err { IfErr result
@@ -72,17 +72,17 @@ pub fn audit<W: Write>(
         (AuditRefuses script.now trace.now)) }
 {
     let mut log = GrowingLog::new(alloc);
-    let script = read_script(&mut log, script)?;
+    let script = read_script_in(&mut log, script)?;
     audit_trace(alloc, &script, trace, writer)
 }
 
 /// Audits the trace, whatever text the script was read from.
 fn audit_trace<W: Write>(
     alloc: Global,
-    script: &Script,
+    script: &ReadScript,
     trace: &[u8],
     writer: &mut W,
-) -> Result<Summary, AuditFault>
+) -> Result<AuditSummary, ReportFault>
     ensures ok { (text : List ℕ) → script_meaning text ≡ Ok script.now → IfOk result
         (IsWritten (AuditSays text trace.now) (W.contents writer.old) (W.contents writer.new)) }
     ensures err { (text : List ℕ) → script_meaning text ≡ Ok script.now → IfErr result
@@ -90,7 +90,7 @@ fn audit_trace<W: Write>(
         (AuditRefuses text trace.now)) }
 {
     if trace.len() > MAX_TRACE {
-        return Err(AuditFault::from(Refusal::TooLong.whole().at_row(0)));
+        return Err(ReportFault::from(Refusal::TooLong.whole().at_row(0)));
     }
     let report = report_piece(alloc, script, trace, Standing::beginning(1))?;
     let summary = report.behind.end(1)?;

@@ -5,17 +5,16 @@ ghost use Rattle.pmp_core.specs.RegisterFile.{IsLegal};
 ghost use Rattle.pmp_audit.specs.Answers.{Declines, IsAppended, IsWritten, IsRefused};
 ghost use Rattle.pmp_audit.specs.AskedFile.{FileRefuses};
 ghost use Rattle.pmp_audit.specs.View.{IsViewText, ViewSays};
-ghost use Rattle.pmp_audit.specs.declared.view.View.TheVariants.{Registers, Runs};
 
 use crate::answer::write_answer;
 use crate::asked_count::asked_count;
-use crate::fault::AuditFault;
+use crate::fault::ReportFault;
 use crate::replay::file_of;
 use crate::since::since_of;
 use pmp_map::RunMap;
 use pmp_text::laws::law_legal_start;
 use pmp_text::{
-    EventLog, GrowingLog, Script, Sink, When, read_script, write_entries, write_picture,
+    EventLog, GrowingLog, ReadScript, Sink, When, read_script_in, write_entries, write_picture,
     write_registers, write_runs, write_script,
 };
 use std::alloc::{AllocError, Global};
@@ -34,38 +33,6 @@ pub enum View {
     Entries,
 }
 
-/// Writes the registers, a line for each.
-pub fn dump<W: Write>(
-    alloc: Global,
-    script: &[u8],
-    after: Option<When>,
-    writer: &mut W,
-) -> Result<(), AuditFault>
-    ensures ok { IfOk result
-        (IsWritten (ViewSays Registers script.now after) (W.contents writer.old) (W.contents writer.new)) }
-    ensures err { IfErr result
-        (IsRefused (ViewSays Registers script.now after) (W.contents writer.old) (W.contents writer.new)
-        (FileRefuses script.now after)) }
-{
-    show(alloc, View::Registers, script, after, writer)
-}
-
-/// Writes the runs, a line for each: which bytes each entry owns, and what it lets each mode do there.
-pub fn map_of<W: Write>(
-    alloc: Global,
-    script: &[u8],
-    after: Option<When>,
-    writer: &mut W,
-) -> Result<(), AuditFault>
-    ensures ok { IfOk result
-        (IsWritten (ViewSays Runs script.now after) (W.contents writer.old) (W.contents writer.new)) }
-    ensures err { IfErr result
-        (IsRefused (ViewSays Runs script.now after) (W.contents writer.old) (W.contents writer.new)
-        (FileRefuses script.now after)) }
-{
-    show(alloc, View::Runs, script, after, writer)
-}
-
 /// Writes this view of the register file after the script's publications done then, or after all of them if that is
 /// none.
 ///
@@ -78,7 +45,7 @@ pub fn show<W: Write>(
     script: &[u8],
     after: Option<When>,
     writer: &mut W,
-) -> Result<(), AuditFault>
+) -> Result<(), ReportFault>
     ensures ok { IfOk result
         (IsWritten (ViewSays view script.now after) (W.contents writer.old) (W.contents writer.new)) }
     ensures err { IfErr result
@@ -98,12 +65,12 @@ pub fn append_view<L: EventLog, S: Sink>(
     script: &[u8],
     after: Option<When>,
     out: &mut S,
-) -> Result<(), AuditFault>
+) -> Result<(), ReportFault>
     ensures ok { IfOk result (IsAppended (ViewSays view script.now after) (S.text out.old) (S.text out.new)) }
     ensures err { IfErr result (Declines (FileRefuses script.now after)) }
     ensures kept { OnErr result (S.text out.new ≡ S.text out.old) }
 {
-    let script = read_script(log, script)?;
+    let script = read_script_in(log, script)?;
     let done = asked_count(&script, after)?;
     law_legal_start();
     write_view(out, view, &script, done)?;
@@ -114,7 +81,7 @@ pub fn append_view<L: EventLog, S: Sink>(
 fn write_view<S: Sink>(
     out: &mut S,
     view: View,
-    script: &Script,
+    script: &ReadScript,
     done: u64,
 ) -> Result<(), AllocError>
     requires legal { IsLegal script.now.start }

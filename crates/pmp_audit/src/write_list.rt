@@ -12,10 +12,10 @@ ghost use Rattle.pmp_audit.specs.WriteList.{WritesSay, WritesRefuse, write_summa
 use crate::accepted_reason::has_other_reason;
 use crate::answer::write_answer;
 use crate::expectations::write_expectations;
-use crate::fault::AuditFault;
+use crate::fault::ReportFault;
 use pmp_core::{Event, RegFile};
 use pmp_text::laws::law_script_size;
-use pmp_text::{EventLog, EventPlace, GrowingLog, Script, Sink, read_script, write_effect};
+use pmp_text::{EventLog, EventPlace, GrowingLog, ReadScript, Sink, read_script_in, write_effect};
 use std::alloc::{AllocError, Global};
 use std::io::Write;
 
@@ -43,7 +43,7 @@ pub fn writes<W: Write>(
     script: &[u8],
     accepted: &[u8],
     writer: &mut W,
-) -> Result<WriteSummary, AuditFault>
+) -> Result<WriteSummary, ReportFault>
     ensures ok { IfOk result
         (IsWritten (WritesSay accepted.now script.now) (W.contents writer.old) (W.contents writer.new)) }
     ensures err { IfErr result
@@ -62,12 +62,12 @@ pub fn append_writes<L: EventLog, S: Sink>(
     script: &[u8],
     accepted: &[u8],
     out: &mut S,
-) -> Result<WriteSummary, AuditFault>
+) -> Result<WriteSummary, ReportFault>
     ensures ok { IfOk result (IsAppended (WritesSay accepted.now script.now) (S.text out.old) (S.text out.new)) }
     ensures err { IfErr result (Declines (WritesRefuse script.now)) }
     ensures kept { OnErr result (S.text out.new ≡ S.text out.old) }
 {
-    let script = read_script(log, script)?;
+    let script = read_script_in(log, script)?;
     law_script_size();
     let before = out.position();
     let summary = write_script(out, &script, accepted);
@@ -80,7 +80,7 @@ pub fn append_writes<L: EventLog, S: Sink>(
 /// Appends the rows of a script's events, and after them those of its expectations.
 fn write_script<S: Sink>(
     out: &mut S,
-    script: &Script,
+    script: &ReadScript,
     accepted: &[u8],
 ) -> Result<WriteSummary, AllocError>
     requires { IsInLimits script.now.batches }
@@ -108,7 +108,7 @@ struct EventSummary {
 
 fn write_events<S: Sink>(
     out: &mut S,
-    script: &Script,
+    script: &ReadScript,
     accepted: &[u8],
 ) -> Result<EventSummary, AllocError>
     requires { IsInLimits script.now.batches }

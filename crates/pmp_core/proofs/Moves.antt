@@ -170,7 +170,7 @@ more_among one other first count moved more so_far is = simp unary_clauses (rw (
 pub none_at : (file : RegisterFile) (i : ℕ) → moved_at file file i ≡ None
 none_at file i = kept_at file file i refl refl refl
 
-none_among : (file : RegisterFile) (first count : ℕ) → moved_among file file first count ≡ None
+pub none_among : (file : RegisterFile) (first count : ℕ) → moved_among file file first count ≡ None
 unfolding moved_among
 none_among file first zero = refl
 none_among file first (suc count) = rw (none_among file first count, none_at file (first + count)) refl

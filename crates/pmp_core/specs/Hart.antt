@@ -53,3 +53,7 @@ profile_with n = record { is_rv32 = false; entries = n; grain = 0; address_bits 
 
 abbrev pub profile_of : Size → Profile
 profile_of size = profile_with (count_of size)
+
+-- the least size with room for its entries
+abbrev pub size_for : Profile → Size
+size_for profile = if nat_lt 16 profile.entries then SixtyFour else Sixteen

@@ -1,6 +1,6 @@
 //! The bytes that a change of the registers may have moved.
 
-ghost use Rattle.std.specs.Prelude.{◌≡◌, ◌<◌, ◌+◌, ◌^◌, ℕ, IsTrue, None, false, length};
+ghost use Rattle.std.specs.Prelude.{◌≡◌, ◌⊎◌, ◌<◌, ◌+◌, ◌^◌, ℕ, IsTrue, None, Some, false, length};
 ghost use Rattle.pmp_core.specs.declared.csr.Csr.{Csr};
 ghost use Rattle.pmp_core.specs.Moved.{AreAlikeBeside, joined, moved_among, moved_at, moved_between, moved_by};
 ghost use Rattle.pmp_core.specs.RegisterWrite.{written};
@@ -152,6 +152,10 @@ impl<'a> Registers<'a> {
     /// all bytes that a changed entry matches or matched, or all bytes if `mseccfg` or the hart differs. None if
     /// nothing changed.
     pub fn moved_since(&self, before: &Registers<'_>) -> Option<Span>
+        ensures moved { self.now.profile ≡ before.now.profile → self.now.mseccfg ≡ before.now.mseccfg
+            → result ≡ moved_among before.now self.now 0 (length self.now.entries) }
+        ensures all { ¬ (self.now.profile ≡ before.now.profile) ⊎ ¬ (self.now.mseccfg ≡ before.now.mseccfg)
+            → result ≡ Some ALL }
         ensures beside { AreAlikeBeside before.now self.now result }
         ensures none { before.now ≡ self.now → result ≡ None }
     {

@@ -9,7 +9,7 @@ ghost use Rattle.pmp_core.specs.RegisterWrite.{step};
 ghost use Rattle.pmp_core.specs.RegisterValue.{register_value};
 ghost use Rattle.pmp_core.specs.Ranges.{decision_of};
 ghost use Rattle.pmp_core.specs.SavedRegisters.{saved_registers, restored_file};
-ghost use Rattle.pmp_core.specs.Hart.{profile_of};
+ghost use Rattle.pmp_core.specs.Hart.{profile_of, size_for};
 ghost use Rattle.pmp_core.specs.declared.size.Size.TheVariants.{Sixteen};
 ghost use Rattle.pmp_core.specs.declared.access.TheConstants.{ADDRESS_LIMIT};
 
@@ -115,6 +115,18 @@ impl RegFile {
         ensures most { result ≤ MAX_ENTRIES }
     {
         self.registers().count() as u8
+    }
+
+    /// Returns the size that has room for the entries: that of `reset_of`, and for a hart with another number of
+    /// entries the least size with as many.
+    pub fn size(&self) -> Size
+        ensures { result ≡ size_for self.now.profile }
+    {
+        if usize::from(self.hart().entries()) > ENTRIES {
+            Size::SixtyFour
+        } else {
+            Size::Sixteen
+        }
     }
 
     /// Resets the unit, which is rare.

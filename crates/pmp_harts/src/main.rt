@@ -46,7 +46,7 @@ fn main(rt: HostRuntime) -> ExitCode {
         (Some(one), Some(zero)) => run_harts(&rt, rt.alloc(), &mut publisher, zero, one),
         _ => Err(ShareFault::NoPlace),
     };
-    let journal = publisher.end(&rt);
+    let journal = publisher.into_journal(&rt);
     let Ok(answers) = answers else {
         return ExitCode::FAILURE;
     };

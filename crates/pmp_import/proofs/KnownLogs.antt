@@ -5,6 +5,9 @@ use Rattle.std.specs.Prelude.{◌⊎◌}
 use Rattle.std.specs.Io.KnownBytes.{Consumes, IsAtEnd}
 use Rattle.std.proofs.KnownBytes.{Consumes-nil, Consumes-trans}
 use Rattle.std.proofs.lemmas.List.{length-append}
+use Rattle.pmp_text.specs.declared.input.InputFault.{InputFault}
+use Rattle.pmp_text.specs.declared.input.InputFault.TheVariants as input
+use Rattle.pmp_text.specs.Inputs.{refusal_of_input}
 use Rattle.pmp_text.specs.declared.refusal.Refusal.{Refusal}
 use Rattle.pmp_text.specs.declared.refusal.Refusal.TheVariants.{Input, Memory, TooLong}
 use Rattle.pmp_text.specs.Cutting.{AreLines, IsLast, IsLineCut}
@@ -139,16 +142,15 @@ module _ {count : ℕ} {had mid : Bytes} {done held : List ℕ} (so_far : Taken 
   -- ---- no lines
 
   module _ {X : Type 0} (comes_to : List (List ℕ) → Result X ImportFault) where
-    pub cut_stops : (new : Bytes) (line : ℕ) (refusal : Refusal) (left : List ℕ)
-        → IsLineCut MOST_LINES held mid new left (Err refusal) → Stopped comes_to had (stop_at line refusal)
-    cut_stops new line TooLong left cut = record {
+    pub cut_stops : (new : Bytes) (line : ℕ) (fault : InputFault) (left : List ℕ)
+        → IsLineCut MOST_LINES held mid new left (Err fault) → Stopped comes_to had (stop_at line (refusal_of_input fault))
+    cut_stops new line input.TooLong left cut = record {
       log = done ++ ((held ++ cut.taken) ++ rest_of new);
       is_log = is_taken new cut.taken cut.consumed;
       stops = too_long (at line TooLong) refl (inl (done, held ++ cut.taken, rest_of new, refl, cut.unended, cut.long));
     }
-    cut_stops new line Input left cut = any_time comes_to had (at 0 Input) (λ log. no_input)
-    cut_stops new line Memory left cut = any_time comes_to had (at 0 Memory) (λ log. no_memory)
-    cut_stops new line _ left cut = absurd cut
+    cut_stops new line input.Input left cut = any_time comes_to had (at 0 Input) (λ log. no_input)
+    cut_stops new line input.Memory left cut = any_time comes_to had (at 0 Memory) (λ log. no_memory)
 
     -- more pieces than can be counted
     pub count_stops : (line : ℕ) → 2 ^ 64 - 1 ≤ count → Stopped comes_to had (at line TooLong)

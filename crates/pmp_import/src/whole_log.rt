@@ -34,7 +34,7 @@ pub fn survey_log<R: Read>(
                 survey.take_lines(format, &piece)?;
                 return Ok(survey);
             }
-            Err(refusal) => return Err(ImportFault::stop(survey.line, refusal)),
+            Err(fault) => return Err(ImportFault::stop(survey.line, Refusal::from(fault))),
         }
     }
     Err(ImportFault::stop(survey.line, Refusal::TooLong))
@@ -69,7 +69,7 @@ pub fn import<R: Read, W: Write>(
                 importer.end(&mut text)?;
                 return Ok(write_out(writer, &text)?);
             }
-            Err(refusal) => return Err(ImportFault::stop(importer.walk.line, refusal)),
+            Err(fault) => return Err(ImportFault::stop(importer.walk.line, Refusal::from(fault))),
         }
     }
     Err(ImportFault::stop(importer.walk.line, Refusal::TooLong))

@@ -3,7 +3,7 @@ use Rattle.std.specs.Prelude.{◌≡◌, ◌⊎◌, ℕ, List, ◌++◌, length,
 use Rattle.std.specs.Option.{option_to_list}
 use Rattle.pmp_map.specs.declared.run.Run.{Run}
 use Rattle.pmp_map.specs.Runs.{AreRuns}
-use Rattle.pmp_text.specs.declared.script.ScriptFault.{ScriptFault}
+use Rattle.pmp_text.specs.declared.script.LineFault.{LineFault}
 use Rattle.pmp_text.specs.Contents.{ScriptContents}
 use Rattle.pmp_text.specs.Outcomes.{out_of_memory}
 use Rattle.pmp_text.specs.Scripts.{script_meaning}
@@ -44,7 +44,7 @@ pub record LintSays (script : List ℕ) (accepted : List ℕ) (before after : Li
   pub counted : told ≡ told_count accepted findings
 
 -- the script's own fault, or memory ran out
-abbrev pub LintRefuses : (script : List ℕ) → ScriptFault → Type 0
+abbrev pub LintRefuses : (script : List ℕ) → LineFault → Type 0
 LintRefuses script fault = (script_meaning script ≡ Err fault) ⊎ (fault ≡ out_of_memory)
 
 -- a script has only one list of findings

@@ -6,7 +6,7 @@ ghost use Rattle.pmp_lint.specs.WhyRows.{HistorySays};
 
 use crate::because::is_same;
 use pmp_core::{Access, Decision};
-use pmp_text::{NoMemory, Script, Sink, write_row};
+use pmp_text::{NoMemory, ReadScript, Sink, write_row};
 
 /// Consecutive moments at which an access is decided alike. A moment is a number of publications done.
 #[derive(Clone, Copy, Debug, PartialEq, Eq)]
@@ -17,7 +17,7 @@ pub struct AnswerRun {
 }
 
 /// Appends the rows of all moments, or a part of them.
-fn write_runs<S: Sink>(out: &mut S, script: &Script<'_>, access: &Access) -> Result<(), NoMemory>
+fn write_runs<S: Sink>(out: &mut S, script: &ReadScript<'_>, access: &Access) -> Result<(), NoMemory>
     ensures ok { OnOk result (HistorySays script.now access.now (S.text out.old) (S.text out.new)) }
     ensures err { OnErr result (StartsWith (S.text out.new) (S.text out.old)) }
 {
@@ -48,7 +48,7 @@ fn write_runs<S: Sink>(out: &mut S, script: &Script<'_>, access: &Access) -> Res
 /// `FIRST,ANSWER,FAULT,CAUSE,ENTRY` and LF: a report row whose number is the first of these moments.
 pub fn append_history<S: Sink>(
     out: &mut S,
-    script: &Script<'_>,
+    script: &ReadScript<'_>,
     access: &Access,
 ) -> Result<(), NoMemory>
     ensures ok { OnOk result (HistorySays script.now access.now (S.text out.old) (S.text out.new)) }

@@ -7,7 +7,7 @@ ghost use Rattle.pmp_lint.specs.Why.{IsSince, IsWhy};
 
 use crate::decider::Decider;
 use pmp_core::{Access, Cause, Decision, RegFile};
-use pmp_text::Script;
+use pmp_text::ReadScript;
 
 /// The reason why an access is decided as it is at a moment of a script.
 #[derive(Clone, Copy, Debug, PartialEq, Eq)]
@@ -37,7 +37,7 @@ pub fn is_same(one: &Decision, other: &Decision) -> bool
 }
 
 /// Returns how the access is decided after the script's first `done` publications, and since when.
-fn decided_at(script: &Script<'_>, done: u64, access: &Access) -> Decided
+fn decided_at(script: &ReadScript<'_>, done: u64, access: &Access) -> Decided
     requires { done ≤ length script.now.batches }
     ensures file { result.file ≡ file_of_script script.now done }
     ensures by_bytes { IsDecision result.file access.now result.decision }
@@ -72,7 +72,7 @@ pub fn deciding_entry(cause: Cause) -> Option<u8>
 }
 
 /// Returns why the access is decided as it is after the script's first `done` publications.
-pub fn why(script: &Script<'_>, done: u64, access: &Access) -> Because
+pub fn why(script: &ReadScript<'_>, done: u64, access: &Access) -> Because
     requires { done ≤ length script.now.batches }
     ensures { IsWhy script.now done access.now result }
 {

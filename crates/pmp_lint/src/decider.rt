@@ -12,7 +12,7 @@ use crate::mseccfg_bits::has_mml;
 use crate::subject::Subject;
 use crate::trail::changed_at;
 use pmp_core::{AddressMatching, Lock, RegFile, Span};
-use pmp_text::Script;
+use pmp_text::ReadScript;
 
 /// The bits L, R, W and X of an entry's configuration.
 #[derive(Clone, Copy, Debug, PartialEq, Eq)]
@@ -88,7 +88,7 @@ fn rule_bits(file: &RegFile, entry: u8) -> RuleBits
 }
 
 /// Returns the line that last changed the low end of the entry's range, if another entry defines it.
-fn low_end_line(script: &Script<'_>, done: u64, entry: u8, matching: AddressMatching) -> Option<u64>
+fn low_end_line(script: &ReadScript<'_>, done: u64, entry: u8, matching: AddressMatching) -> Option<u64>
     requires within { done ≤ length script.now.batches }
     requires entry { entry < MAX_ENTRIES }
     requires matching { matching
@@ -104,7 +104,7 @@ fn low_end_line(script: &Script<'_>, done: u64, entry: u8, matching: AddressMatc
 
 impl Decider {
     /// Returns the entry in this register file, which the script's first `done` publications leave.
-    pub(crate) fn decode(script: &Script<'_>, done: u64, file: &RegFile, entry: u8) -> Decider
+    pub(crate) fn decode(script: &ReadScript<'_>, done: u64, file: &RegFile, entry: u8) -> Decider
         requires within { done ≤ length script.now.batches }
         requires file { file.now ≡ file_of_script script.now done }
         requires entry { entry < length file.now.entries }

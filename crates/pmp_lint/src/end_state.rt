@@ -14,12 +14,12 @@ use crate::subject::Subject;
 use crate::trail::changed_at;
 use pmp_core::{AddressMatching, Lock, RegFile, Registers};
 use pmp_map::Run;
-use pmp_text::Script;
+use pmp_text::ReadScript;
 
 /// A script, and the registers that it leaves.
 #[derive(Clone, Copy)]
 pub struct Ended<'a> {
-    pub script: &'a Script<'a>,
+    pub script: &'a ReadScript<'a>,
     /// The register file after all publications.
     pub file: &'a RegFile,
     pub ghost ended: { file.now ≡ end_of script.now },

@@ -14,7 +14,7 @@ use crate::lint::Lint;
 use crate::told::Told;
 use crate::trail::line_at;
 use pmp_core::{Event, RegFile};
-use pmp_text::{NoMemory, Script, Sink};
+use pmp_text::{NoMemory, ReadScript, Sink};
 
 /// An event, with the register file that it meets, and its line number.
 #[derive(Clone, Copy)]
@@ -98,7 +98,7 @@ fn add_of_publication<S: Sink>(
 pub fn add_late_writes<S: Sink>(
     out: &mut S,
     told: &mut Told<'_>,
-    script: &Script<'_>,
+    script: &ReadScript<'_>,
 ) -> Result<(), NoMemory>
     ensures ok { OnOk result (HasTold (late_writes script.now (length script.now.batches))
         (telling (S.text out.old) told.old) (telling (S.text out.new) told.new)) }

@@ -15,7 +15,7 @@ use crate::stretch::{Between, Stretch};
 use crate::told::Told;
 use crate::trail::line_at;
 use pmp_core::{ADDRESS_LIMIT, Event, RegFile, Span};
-use pmp_text::{Modes, NoMemory, Script, Sink};
+use pmp_text::{Modes, NoMemory, ReadScript, Sink};
 
 impl Stretch {
     /// Returns a finding, if its bytes are opened by the write in this line.
@@ -97,7 +97,7 @@ fn add_of_publication<S: Sink>(
 pub fn add_open_between<S: Sink>(
     out: &mut S,
     told: &mut Told<'_>,
-    script: &Script<'_>,
+    script: &ReadScript<'_>,
 ) -> Result<(), NoMemory>
     ensures ok { OnOk result (HasToldSome (AreOpenBetween script.now (length script.now.batches))
         (telling (S.text out.old) told.old) (telling (S.text out.new) told.new)) }

@@ -13,10 +13,10 @@ use crate::open_between::add_open_between;
 use crate::told::Told;
 use pmp_core::RegFile;
 use pmp_map::{Run, RunMap};
-use pmp_text::{EventLog, NoMemory, Script, ScriptFault, Sink, read_script};
+use pmp_text::{EventLog, NoMemory, ReadScript, LineFault, Sink, read_script_in};
 
 /// Returns the register file after all publications.
-fn end_of(script: &Script<'_>) -> RegFile
+fn end_of(script: &ReadScript<'_>) -> RegFile
     ensures { result ≡ end_of script.now }
 {
     let mut file = script.start();
@@ -81,7 +81,7 @@ impl<'a> Ended<'a> {
 }
 
 /// Appends the rows of a script's findings that aren't accepted, or a part of them, and returns the number of rows.
-fn write_told<S: Sink>(out: &mut S, script: &Script<'_>, accepted: &[u8]) -> Result<usize, NoMemory>
+fn write_told<S: Sink>(out: &mut S, script: &ReadScript<'_>, accepted: &[u8]) -> Result<usize, NoMemory>
     ensures ok { IfOk result (λ told. HasToldSome (AreFindings script.now)
         (so_far accepted.now (S.text out.old) 0) (so_far accepted.now (S.text out.new) told)) }
     ensures err { OnErr result (StartsWith (S.text out.new) (S.text out.old)) }
@@ -115,12 +115,12 @@ pub fn append_lint<L: EventLog, S: Sink>(
     script: &[u8],
     accepted: &[u8],
     out: &mut S,
-) -> Result<usize, ScriptFault>
+) -> Result<usize, LineFault>
     ensures ok { IfOk result (LintSays script.now accepted.now (S.text out.old) (S.text out.new)) }
     ensures err { IfErr result (LintRefuses script.now) }
     ensures kept { OnErr result (S.text out.new ≡ S.text out.old) }
 {
-    let script = read_script(log, script)?;
+    let script = read_script_in(log, script)?;
     let before = out.position();
     let told = write_told(out, &script, accepted);
     if told.is_err() {

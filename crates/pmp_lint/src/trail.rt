@@ -7,7 +7,7 @@ ghost use Rattle.pmp_lint.specs.Subjects.{IsSubject};
 
 use crate::subject::Subject;
 use pmp_core::{Event, RegFile};
-use pmp_text::Script;
+use pmp_text::ReadScript;
 
 /// The register file as a script's events are executed, and the line of the last of them that changed a subject.
 #[derive(Clone, Copy)]
@@ -44,7 +44,7 @@ impl Trail {
 }
 
 /// Returns the line of the last event in the script's first `count` publications that changes the subject, 0 if none.
-pub fn changed_at(script: &Script<'_>, count: u64, subject: Subject) -> u64
+pub fn changed_at(script: &ReadScript<'_>, count: u64, subject: Subject) -> u64
     requires subject { IsSubject subject }
     requires within { count ≤ length script.now.batches }
     ensures { result ≡ changed_at script.now count subject }

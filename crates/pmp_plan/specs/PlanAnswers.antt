@@ -6,7 +6,7 @@ use Rattle.pmp_core.specs.declared.event.Event.{Event}
 use Rattle.pmp_core.specs.Histories.{is_write}
 use Rattle.pmp_core.specs.RegisterFile.{RegisterFile}
 use Rattle.pmp_text.specs.Bytes.{AppendsBeginning}
-use Rattle.pmp_text.specs.declared.trace.TraceFault.{TraceFault}
+use Rattle.pmp_text.specs.declared.trace.RowFault.{RowFault}
 use Rattle.pmp_text.specs.declared.refusal.Refusal.TheVariants.{TooLong}
 use Rattle.pmp_text.specs.declared.script.reader.TheConstants.{MAX_SCRIPT}
 use Rattle.pmp_text.specs.Flaws.{as_whole, at_row}
@@ -38,7 +38,7 @@ IsTold start aim form rows text = AllPairs AreApart rows × IsText start aim for
 abbrev pub Untold : RegisterFile → Aim → List PlanRow → AnswerFault → Type 0
 Untold start aim rows fault = (why : PlanFault) × (fault ≡ answer.Plan why) × RefusesFrom start aim rows why
 
-abbrev pub too_long : TraceFault
+abbrev pub too_long : RowFault
 too_long = at_row 0 (as_whole TooLong)
 
 module _ (start : RegisterFile) (aim : Aim) (form : Form) (plan : List ℕ) where
@@ -56,7 +56,7 @@ module _ (start : RegisterFile) (aim : Aim) (form : Form) (plan : List ℕ) wher
     -- why nothing is written, or only a part if the output fails
     pub data PlanFails : AnswerFault → Type 0 where
       long : MAX_SCRIPT < length plan → Keeps before after → PlanFails (answer.Text too_long)
-      no_plan : (fault : TraceFault) → (fault ≡ no_memory_for_rows) ⊎ (plan_said plan ≡ Err fault)
+      no_plan : (fault : RowFault) → (fault ≡ no_memory_for_rows) ⊎ (plan_said plan ≡ Err fault)
           → Keeps before after → PlanFails (answer.Text fault)
       no_writes : (rows : List PlanRow) (fault : PlanFault) → plan_said plan ≡ Ok (map said rows)
           → RefusesFrom start aim rows fault → Keeps before after → PlanFails (answer.Plan fault)

@@ -2,7 +2,7 @@
 use Rattle.std.specs.Prelude.{◌≡◌, ◌⊎◌, ℕ, List, Ok, Err, map}
 use Rattle.pmp_core.specs.declared.hart.Profile.{Profile}
 use Rattle.pmp_core.specs.RegisterFile.{reset_file}
-use Rattle.pmp_text.specs.declared.trace.TraceFault.{TraceFault}
+use Rattle.pmp_text.specs.declared.trace.RowFault.{RowFault}
 use Rattle.pmp_text.specs.Outcomes.{no_memory_for_rows}
 use Rattle.pmp_plan.specs.declared.answer.AnswerFault.{AnswerFault}
 use Rattle.pmp_plan.specs.declared.answer.AnswerFault.TheVariants as answer
@@ -16,7 +16,7 @@ use Rattle.pmp_plan.specs.Routes.{plain}
 
 -- the text is no plan, or there are no writes for it; or memory ran out
 pub data HasNoScript (hart : Profile) (security : Security) (plan : List ℕ) : AnswerFault → Type 0 where
-  no_rows : (fault : TraceFault) → (fault ≡ no_memory_for_rows) ⊎ (plan_said plan ≡ Err fault)
+  no_rows : (fault : RowFault) → (fault ≡ no_memory_for_rows) ⊎ (plan_said plan ≡ Err fault)
       → HasNoScript hart security plan (answer.Text fault)
   no_script : (rows : List PlanRow) (fault : PlanFault) → plan_said plan ≡ Ok (map said rows)
       → RefusesFrom (reset_file hart) (plain security) rows fault → HasNoScript hart security plan (answer.Plan fault)

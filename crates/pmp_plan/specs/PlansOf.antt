@@ -8,7 +8,7 @@ use Rattle.pmp_text.specs.Contents.{ScriptContents}
 use Rattle.pmp_text.specs.Outcomes.{out_of_memory}
 use Rattle.pmp_text.specs.Reports.{file_behind}
 use Rattle.pmp_text.specs.Scripts.{script_meaning}
-use Rattle.pmp_text.specs.declared.script.ScriptFault.{ScriptFault}
+use Rattle.pmp_text.specs.declared.script.LineFault.{LineFault}
 use Rattle.pmp_plan.specs.declared.answer.AnswerFault.{AnswerFault}
 use Rattle.pmp_plan.specs.declared.answer.AnswerFault.TheVariants as answer
 use Rattle.pmp_plan.specs.declared.fault.PlanFault.TheVariants.{Memory}
@@ -35,7 +35,7 @@ pub record Leaves (script : List ℕ) (file : RegisterFile) : Type 0 where
 
 -- the text is no script, or memory ran out
 pub data LeavesNone (script : List ℕ) : AnswerFault → Type 0 where
-  no_script : (fault : ScriptFault) → script_meaning script ≡ Err fault → LeavesNone script (answer.Script fault)
+  no_script : (fault : LineFault) → script_meaning script ≡ Err fault → LeavesNone script (answer.Script fault)
   no_memory_for_script : LeavesNone script (answer.Script out_of_memory)
 
 -- the text is a plan of these registers

@@ -14,7 +14,7 @@ use crate::plan_row::PlanRow;
 use crate::reading::read_plan;
 use crate::script::append_script;
 use pmp_core::RegFile;
-use pmp_text::{MAX_SCRIPT, OutputFault, Refusal, ScriptFault, TraceFault, write_out};
+use pmp_text::{MAX_SCRIPT, OutputFault, Refusal, LineFault, RowFault, write_out};
 use std::alloc::{AllocError, Global};
 use std::io::Write;
 
@@ -31,9 +31,9 @@ pub enum Form {
 #[derive(Clone, Copy, Debug, PartialEq, Eq)]
 pub enum AnswerFault {
     /// The text describes no plan.
-    Text(TraceFault),
+    Text(RowFault),
     /// The text describes no script.
-    Script(ScriptFault),
+    Script(LineFault),
     /// There are no writes for the plan, or memory ran out.
     Plan(PlanFault),
     Output,
@@ -47,18 +47,18 @@ impl From<PlanFault> for AnswerFault {
     }
 }
 
-impl From<TraceFault> for AnswerFault {
+impl From<RowFault> for AnswerFault {
     ghost from_gives = { λ fault answer. answer ≡ Text fault };
 
-    fn from(fault: TraceFault) -> AnswerFault {
+    fn from(fault: RowFault) -> AnswerFault {
         AnswerFault::Text(fault)
     }
 }
 
-impl From<ScriptFault> for AnswerFault {
+impl From<LineFault> for AnswerFault {
     ghost from_gives = { λ fault answer. answer ≡ Script fault };
 
-    fn from(fault: ScriptFault) -> AnswerFault {
+    fn from(fault: LineFault) -> AnswerFault {
         AnswerFault::Script(fault)
     }
 }

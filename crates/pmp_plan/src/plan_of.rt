@@ -13,7 +13,7 @@ use crate::row_faults::overlap;
 use crate::security::Security;
 use pmp_core::{ADDRESS_LIMIT, RegFile, Registers};
 use pmp_map::{ModeRights, Run, is_held, run_around};
-use pmp_text::{GrowingLog, NoMemory, append_line, read_script, write_out};
+use pmp_text::{GrowingLog, NoMemory, append_line, read_script_in, write_out};
 use std::alloc::Global;
 use std::fmt;
 use std::io::Write;
@@ -92,7 +92,7 @@ pub fn registers_after(alloc: Global, script: &[u8]) -> Result<RegFile, AnswerFa
     ensures err { IfErr result (LeavesNone script.now) }
 {
     let mut log = GrowingLog::new(alloc);
-    let script = read_script(&mut log, script)?;
+    let script = read_script_in(&mut log, script)?;
     let mut file = script.start();
     file.run_events(script.events());
     Ok(file)

@@ -8,7 +8,7 @@ ghost use Rattle.pmp_plan.specs.KeptRows.{AddsRow, IsFaultOf, said};
 
 use crate::plan_row::PlanRow;
 use crate::row_list::RowList;
-use pmp_text::{Refusal, TraceFault, split_first_line};
+use pmp_text::{Refusal, RowFault, split_first_line};
 use std::alloc::Global;
 
 /// The first line of a plan.
@@ -20,7 +20,7 @@ pub const HEADER: &[u8] = b"first,last,m,su,locked,name";
 /// `BadHeader` if the first line differs; `BadRow` if a row is invalid, with its invalid field if it has six: a number,
 /// a number that isn't less, rights such as `rw-`, rights, `yes` or `no`, or a name; `PastEnd` if its last byte doesn't
 /// exist; `Memory`, at row 0.
-pub fn read_plan<'a>(alloc: Global, text: &'a [u8]) -> Result<Vec<PlanRow<'a>>, TraceFault>
+pub fn read_plan<'a>(alloc: Global, text: &'a [u8]) -> Result<Vec<PlanRow<'a>>, RowFault>
     ensures ok { IfOk result (λ rows. plan_said text.now ≡ Ok (map said rows.items)) }
     ensures err { IfErr result (λ fault. (fault ≡ no_memory_for_rows) ⊎ (plan_said text.now ≡ Err fault)) }
 {
@@ -30,7 +30,7 @@ pub fn read_plan<'a>(alloc: Global, text: &'a [u8]) -> Result<Vec<PlanRow<'a>>, 
 }
 
 /// Puts the rows in a text into a list, in the place of those that it has.
-pub fn read_plan_to<'a, L: RowList<'a>>(rows: &mut L, text: &'a [u8]) -> Result<(), TraceFault>
+pub fn read_plan_to<'a, L: RowList<'a>>(rows: &mut L, text: &'a [u8]) -> Result<(), RowFault>
     ensures ok { OnOk result (plan_said text.now ≡ Ok (map said (L.kept rows.new))) }
     ensures err { IfErr result (λ fault. (fault ≡ no_memory_for_rows) ⊎ (plan_said text.now ≡ Err fault)) }
 {
@@ -40,7 +40,7 @@ pub fn read_plan_to<'a, L: RowList<'a>>(rows: &mut L, text: &'a [u8]) -> Result<
     }
 }
 
-fn read_rows<'a, L: RowList<'a>>(rows: &mut L, text: &'a [u8]) -> Result<(), TraceFault>
+fn read_rows<'a, L: RowList<'a>>(rows: &mut L, text: &'a [u8]) -> Result<(), RowFault>
     ensures ok { OnOk result (rows_from 1 (lines text.now) ≡ Ok (map said (L.kept rows.new))) }
     ensures err { IfErr result (λ fault. (fault ≡ no_memory_for_rows) ⊎ (rows_from 1 (lines text.now) ≡ Err fault)) }
 {
@@ -55,7 +55,7 @@ fn read_rows<'a, L: RowList<'a>>(rows: &mut L, text: &'a [u8]) -> Result<(), Tra
     Ok(())
 }
 
-fn add<'a, L: RowList<'a>>(rows: &mut L, line: &'a [u8], number: u64) -> Result<(), TraceFault>
+fn add<'a, L: RowList<'a>>(rows: &mut L, line: &'a [u8], number: u64) -> Result<(), RowFault>
     ensures ok { OnOk result (AddsRow line.now (L.kept rows.old) (L.kept rows.new)) }
     ensures err { IfErr result (λ fault. (fault ≡ no_memory_for_rows) ⊎ IsFaultOf line.now number fault) }
 {

@@ -9,7 +9,7 @@ use crate::plan_row::PlanRow;
 use crate::writes::WRITES;
 use arrayvec::ArrayVec;
 use pmp_core::{BATCH_EVENTS, Event, RegFile};
-use pmp_text::{FixedLog, NoMemory, RegisterName, Sink, append_line, read_script, write_script};
+use pmp_text::{FixedLog, NoMemory, RegisterName, Sink, append_line, read_script_in, write_script};
 
 /// The greatest length of a script in bytes: a head with all registers, and a line for each write.
 const SCRIPT: usize = 16384;
@@ -40,7 +40,7 @@ fn means_plan(text: &[u8], start: &RegFile, aim: Aim, rows: &[PlanRow<'_>]) -> b
     ensures { IsTrue result → MeansPlan start.now aim rows.now text.now }
 {
     let mut log = FixedLog::<WRITES, 4, 1, 1>::new();
-    let Ok(script) = read_script(&mut log, text) else {
+    let Ok(script) = read_script_in(&mut log, text) else {
         return false;
     };
     if script.start().save() != start.save() {

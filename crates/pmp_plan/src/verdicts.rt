@@ -13,7 +13,7 @@ use crate::row_list::RowList;
 use crate::security::Security;
 use crate::unmet::{Unmet, first_unmet, first_unmet_rest};
 use pmp_core::{RegFile, Registers};
-use pmp_text::{NoMemory, Sink, TraceFault, append_line};
+use pmp_text::{NoMemory, Sink, RowFault, append_line};
 use std::fmt;
 
 /// The number of an entry, or a dash for none.
@@ -80,7 +80,7 @@ pub fn append_verdicts<'a, L: RowList<'a>, S: Sink>(
     file: &RegFile,
     text: &'a [u8],
     out: &mut S,
-) -> Result<(), TraceFault>
+) -> Result<(), RowFault>
     ensures ok { OnOk result ((lines : List ℕ) × VerdictsSay file.now text.now lines
         × (S.text out.new ≡ S.text out.old ++ lines)) }
     ensures err { IfErr result (λ fault. (fault ≡ no_memory_for_rows) ⊎ (plan_said text.now ≡ Err fault)) }

@@ -14,8 +14,9 @@ use std::marker::Model;
 /// of the batches.
 #[derive(Drop)]
 pub struct Journal {
-    events: Vec<Event>,
-    ends: Vec<u64>,
+    pub events: Vec<Event>,
+    /// How many events there are once each batch was added. An empty batch repeats the number before it.
+    pub ends: Vec<u64>,
 }
 
 impl Model for Journal {

@@ -120,9 +120,13 @@ impl Publisher {
         Ok(self.state.shown().event_count())
     }
 
-    /// Ends the publisher, and returns what it published. What is pending is lost, and no checker ever sees it. The
-    /// checkers continue to decide.
-    pub fn end<R: Wait>(self, rt: &R) -> Journal
+    /// Ends the publisher. What is pending is lost, and no checker ever sees it. The checkers continue to decide.
+    pub fn end<R: Wait>(self, rt: &R) {
+        let _journal = self.into_journal(rt);
+    }
+
+    /// Ends the publisher, as [`end`](Publisher::end) does, and returns what it published.
+    pub fn into_journal<R: Wait>(self, rt: &R) -> Journal
         ensures { result ≡ self.published }
     {
         let Publisher {

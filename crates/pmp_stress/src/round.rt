@@ -181,7 +181,7 @@ pub fn run_round<R: Clock + Threads + Wait + Copy + Send + 'static>(
         tally,
     };
     let crew = round.run(rt, &mut publisher, checkers);
-    let journal = publisher.end(rt);
+    let journal = publisher.into_journal(rt);
     let crew = crew?;
     crew.meeting.leave();
     round.come_back(rt, crew)?;

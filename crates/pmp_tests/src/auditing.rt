@@ -1,6 +1,6 @@
 //! An audit by several workers that pass a gate.
 
-use pmp_audit::{AuditFault, Gate, Summary, audit_shared};
+use pmp_audit::{ReportFault, Gate, AuditSummary, audit_by_workers};
 use std::alloc::{AllocError, Global};
 use std::sync::Wait;
 use std::sync::atomic::{AtomicBool, AtomicU64, Ordering};
@@ -107,20 +107,20 @@ fn trace_of(alloc: Global, first: u64, rows: u64) -> Result<Vec<u8>, AllocError>
 }
 
 /// Audits the rows by eight workers; the `first` rows ask for no publication.
-fn audit_by_workers<R: Threads + Wait + Sync, G: Gate + Sync>(
+fn audit_all<R: Threads + Wait + Sync, G: Gate + Sync>(
     rt: &R,
     alloc: Global,
     gate: &G,
     first: u64,
-) -> Result<Summary, AuditFault> {
+) -> Result<AuditSummary, ReportFault> {
     let trace = trace_of(alloc, first, ROWS)?;
     let mut report = Vec::new(alloc);
-    audit_shared(rt, alloc, gate, 8, SCRIPT, trace.as_slice(), &mut report)
+    audit_by_workers(rt, alloc, gate, 8, SCRIPT, trace.as_slice(), &mut report)
 }
 
 /// Returns the summary of all rows decided, with the given number of them refused.
-fn with_faults(faults: u64) -> Result<Summary, AuditFault> {
-    Ok(Summary {
+fn with_faults(faults: u64) -> Result<AuditSummary, ReportFault> {
+    Ok(AuditSummary {
         rows: ROWS,
         faults,
         bare: None,
@@ -133,7 +133,7 @@ fn with_faults(faults: u64) -> Result<Summary, AuditFault> {
 #[test]
 fn workers_overlap(rt: HostRuntime) {
     let gate = Meeting::new();
-    let answer = audit_by_workers(&rt, rt.alloc(), &gate, SECOND - 1);
+    let answer = audit_all(&rt, rt.alloc(), &gate, SECOND - 1);
     assert!(rt; answer == with_faults(11));
     assert!(rt;
         !gate.missed.load(Ordering::SeqCst),
@@ -175,7 +175,7 @@ fn workers_take_turns(rt: HostRuntime) {
         last: zero(),
         is_wrong: AtomicBool::new(false),
     };
-    let answer = audit_by_workers(&rt, rt.alloc(), &gate, ROWS);
+    let answer = audit_all(&rt, rt.alloc(), &gate, ROWS);
     assert!(rt; answer == with_faults(31));
     assert!(rt; !gate.is_wrong.load(Ordering::SeqCst), "out of turn");
     assert!(rt; gate.calls.load(Ordering::SeqCst) == ROWS);

@@ -1,7 +1,7 @@
 //! A long audit of a trace that is cut at every limit.
 
-use pmp_audit::{AuditFault, Summary, audit, audit_long};
-use pmp_text::{Refusal, TraceFault};
+use pmp_audit::{ReportFault, AuditSummary, audit_long, audit_whole};
+use pmp_text::{Refusal, RowFault};
 use std::alloc::Global;
 use std::thread::Threads;
 
@@ -22,7 +22,7 @@ const FALLING: &[u8] =
 const ROOM: usize = 30;
 
 /// The refusal of a line that is longer than a piece.
-const LONG_LINE: AuditFault = AuditFault::Trace(TraceFault {
+const LONG_LINE: ReportFault = ReportFault::Trace(RowFault {
     kind: Refusal::TooLong,
     row: 0,
     field: None,
@@ -35,7 +35,7 @@ fn audit_by_pieces<R: Threads + Sync>(
     jobs: usize,
     limit: usize,
     trace: &[u8],
-) -> (Result<Summary, AuditFault>, Vec<u8>) {
+) -> (Result<AuditSummary, ReportFault>, Vec<u8>) {
     let mut reader = trace;
     let mut report = Vec::new(alloc);
     let answer = audit_long(rt, alloc, jobs, SCRIPT, 1, limit, &mut reader, &mut report);
@@ -52,7 +52,7 @@ fn are_rows_of(rows: &[u8], report: &[u8]) -> bool {
 #[test]
 fn cuts_show_nowhere(rt: HostRuntime) {
     let mut whole = Vec::new(rt.alloc());
-    let wanted = audit(rt.alloc(), SCRIPT, TRACE, &mut whole);
+    let wanted = audit_whole(rt.alloc(), SCRIPT, TRACE, &mut whole);
     for limit in 1..TRACE.len() + 3 {
         for jobs in [1, 3] {
             let (answer, report) = audit_by_pieces(&rt, rt.alloc(), jobs, limit, TRACE);
@@ -69,13 +69,13 @@ fn cuts_show_nowhere(rt: HostRuntime) {
 /// answer to the trace without it.
 #[test]
 fn order_goes_over_cuts(rt: HostRuntime) {
-    let order = AuditFault::Trace(TraceFault {
+    let order = ReportFault::Trace(RowFault {
         kind: Refusal::Order,
         row: 5,
         field: Some(0),
     });
     let mut whole = Vec::new(rt.alloc());
-    let sound = audit(rt.alloc(), SCRIPT, TRACE, &mut whole);
+    let sound = audit_whole(rt.alloc(), SCRIPT, TRACE, &mut whole);
     assert!(rt; sound.is_ok());
     for limit in ROOM..FALLING.len() + 3 {
         for jobs in [1, 3] {

@@ -1,8 +1,8 @@
 //! Readers that never end, and readers that fail.
 
 use pmp_text::{
-    GrowingLog, MAX_SCRIPT, MAX_TRACE, Moments, Refusal, ScriptFault, read_bytes, read_script,
-    read_trace,
+    GrowingLog, MAX_SCRIPT, MAX_TRACE, Moments, Refusal, LineFault, read_bytes, read_script_in,
+    read_trace_by,
 };
 use std::alloc::Global;
 use std::io;
@@ -76,8 +76,8 @@ fn longer_texts_are_too_long(rt: HostRuntime) {
     let script = line_feeds(&rt, rt.alloc(), MAX_SCRIPT / 4096);
     let (kind, word) = (Refusal::TooLong, None);
     assert!(rt;
-        read_script(&mut GrowingLog::new(rt.alloc()), script.as_slice()).err()
-            == Some(ScriptFault {
+        read_script_in(&mut GrowingLog::new(rt.alloc()), script.as_slice()).err()
+            == Some(LineFault {
                 kind,
                 line: 0,
                 word
@@ -90,6 +90,6 @@ fn longer_texts_are_too_long(rt: HostRuntime) {
         lasting: None,
     };
     assert!(rt;
-        read_trace(rt.alloc(), trace.as_slice(), &moments).err() == Some(kind.whole().at_row(0))
+        read_trace_by(rt.alloc(), trace.as_slice(), &moments).err() == Some(kind.whole().at_row(0))
     );
 }

@@ -3,7 +3,7 @@ use Rattle.std.proofs.Common.{◌≡◌, ℕ, suc, ◌+◌, ◌≤◌, Bool, tru
 use Rattle.std.proofs.Common.{arith}
 use Rattle.std.specs.Prelude.{filter_map, option_map, option_and_then, slice_get}
 use Rattle.pmp_text.specs.Moments.{KnownMoments}
-use Rattle.pmp_text.specs.declared.trace.TraceFault.{TraceFault}
+use Rattle.pmp_text.specs.declared.trace.RowFault.{RowFault}
 use Rattle.pmp_text.specs.Faults.{IsLeastFault}
 use Rattle.pmp_text.specs.Policies.{first_policy_fault, is_labeled, is_labeled_header, is_policy_header, policy_in}
 use Rattle.pmp_text.specs.Policies.{policy_meaning, policy_of_record, policy_row_fault, policy_rows_meaning}
@@ -19,15 +19,15 @@ Records = List (List (List ℕ))
 
 module _ (labeled : Bool) (moments : KnownMoments) where
   -- the fault of a row, the first of which has this number
-  abbrev fault_from : (number : ℕ) → Records → ℕ → Option TraceFault
-  fault_from number rows index = option_and_then {T = List (List ℕ)} {U = TraceFault}
+  abbrev fault_from : (number : ℕ) → Records → ℕ → Option RowFault
+  fault_from number rows index = option_and_then {T = List (List ℕ)} {U = RowFault}
       (λ row. option_map (at_row (number + index))
       (policy_row_fault moments.publications (policy_in labeled moments row)))
       (slice_get rows index)
 
   -- the same, by its number
-  abbrev fault_with : Records → ℕ → (number : ℕ) → Option TraceFault
-  fault_with rows index number = option_and_then {T = List (List ℕ)} {U = TraceFault}
+  abbrev fault_with : Records → ℕ → (number : ℕ) → Option RowFault
+  fault_with rows index number = option_and_then {T = List (List ℕ)} {U = RowFault}
       (λ row. option_map (at_row number) (policy_row_fault moments.publications (policy_in labeled moments row)))
       (slice_get rows index)
 
@@ -62,7 +62,7 @@ module _ (labeled : Bool) (moments : KnownMoments) where
       (first_policy_fault labeled moments 1 rows) (counted_from_one rows) (judged_from rows 1)
 
 pub least_policy_row_is_answered : (moments : KnownMoments) (text : List ℕ) (header : List (List ℕ)) (rows : Records)
-    (fault : TraceFault) → length text ≤ MAX_TRACE → records_of text ≡ header ∷ rows
+    (fault : RowFault) → length text ≤ MAX_TRACE → records_of text ≡ header ∷ rows
     → is_policy_header header ≡ true → IsLeastFault (policy_fault_at (is_labeled_header header) moments rows) fault
     → policy_meaning moments text ≡ Err fault
 least_policy_row_is_answered moments text header rows fault short records named least =
@@ -72,6 +72,6 @@ least_policy_row_is_answered moments text header rows fault short records named 
     ∙ ap (λ (l : Bool). within_limit (behind_header is_policy_header (policy_rows_meaning l moments)) text) same
     ∙ by_records is_policy_header (policy_rows_meaning labeled moments) text short
     ∙ this_header is_policy_header (policy_rows_meaning labeled moments) (records_of text) header rows records named
-    ∙ ap (λ (first : Option TraceFault). fault_or_rows first (filter_map (policy_of_record labeled moments) rows))
+    ∙ ap (λ (first : Option RowFault). fault_or_rows first (filter_map (policy_of_record labeled moments) rows))
     (the_first (policy_fault_at labeled moments rows) (first_policy_fault labeled moments 1 rows) fault
     (first_policy_row_is_least labeled moments rows) least)

@@ -8,7 +8,7 @@ use Rattle.pmp_core.specs.Access.{access_fault}
 use Rattle.pmp_text.specs.declared.trace.row_fields.RowFields.{RowFields}
 use Rattle.pmp_text.specs.declared.flaw.Flaw.{Flaw}
 use Rattle.pmp_text.specs.declared.refusal.Refusal.TheVariants.{BadAfter, BadHeader, Order, TooLong}
-use Rattle.pmp_text.specs.declared.trace.TraceFault.{TraceFault}
+use Rattle.pmp_text.specs.declared.trace.RowFault.{RowFault}
 use Rattle.pmp_text.specs.Faults.{IsLeastFault}
 use Rattle.pmp_text.specs.Moments.{KnownMoments}
 use Rattle.pmp_text.specs.Tables.{fault_or_rows, records_of}
@@ -26,8 +26,8 @@ Records = List (List (List ℕ))
 
 module _ (moments : KnownMoments) where
   -- the fault of a row behind one that asks for `last`, the first with this number
-  abbrev fault_behind : (last : Option ℕ) (number : ℕ) → Records → ℕ → Option TraceFault
-  fault_behind last number rows index = option_and_then {T = List (List ℕ)} {U = TraceFault}
+  abbrev fault_behind : (last : Option ℕ) (number : ℕ) → Records → ℕ → Option RowFault
+  fault_behind last number rows index = option_and_then {T = List (List ℕ)} {U = RowFault}
       (λ row. option_map (at_row (number + index)) (row_fault moments.publications
       (after_before moments last rows index) (row_in moments row))) (slice_get rows index)
 
@@ -36,13 +36,13 @@ module _ (moments : KnownMoments) where
       ≡ fault_behind (after_of (row_of_record moments row)) (number + 1) more index
   one_behind last number row more zero =
       let same : number + 1 ≡ number + 1 + 0 = omega arith in
-      ap (λ (n : ℕ). option_and_then {T = List (List ℕ)} {U = TraceFault}
+      ap (λ (n : ℕ). option_and_then {T = List (List ℕ)} {U = RowFault}
       (λ next. option_map (at_row n) (row_fault moments.publications (after_of (row_of_record moments row))
       (row_in moments next)))
       (slice_get more 0)) same
   one_behind last number row more (suc index) =
       let same : number + suc (suc index) ≡ number + 1 + suc index = omega arith in
-      ap (λ (n : ℕ). option_and_then {T = List (List ℕ)} {U = TraceFault}
+      ap (λ (n : ℕ). option_and_then {T = List (List ℕ)} {U = RowFault}
       (λ next. option_map (at_row n) (row_fault moments.publications
       (after_before moments last (row ∷ more) (suc (suc index)))
       (row_in moments next))) (slice_get more (suc index))) same
@@ -67,7 +67,7 @@ module _ (moments : KnownMoments) where
       → row_fault_at moments rows index ≡ fault_behind None 1 rows index
   counted_from_one rows index =
       let same : index + 1 ≡ 1 + index = omega arith in
-      ap (λ (n : ℕ). option_and_then {T = List (List ℕ)} {U = TraceFault}
+      ap (λ (n : ℕ). option_and_then {T = List (List ℕ)} {U = RowFault}
       (λ row. option_map (at_row n) (row_fault moments.publications (after_before moments None rows index)
       (row_in moments row)))
       (slice_get rows index)) same
@@ -77,13 +77,13 @@ module _ (moments : KnownMoments) where
   first_row_is_least rows = judged_as (fault_behind None 1 rows) (row_fault_at moments rows)
       (first_row_fault moments None 1 rows) (counted_from_one rows) (judged_behind rows None 1)
 
-  pub least_row_is_answered : (text : List ℕ) (header : List (List ℕ)) (rows : Records) (fault : TraceFault)
+  pub least_row_is_answered : (text : List ℕ) (header : List (List ℕ)) (rows : Records) (fault : RowFault)
       → length text ≤ MAX_TRACE → records_of text ≡ header ∷ rows → is_header header ≡ true
       → IsLeastFault (row_fault_at moments rows) fault → trace_meaning moments text ≡ Err fault
   least_row_is_answered text header rows fault short records named least =
       trace_is moments text ∙ by_records is_header (rows_meaning moments) text short
       ∙ this_header is_header (rows_meaning moments) (records_of text) header rows records named
-      ∙ ap (λ (first : Option TraceFault). fault_or_rows first (filter_map (row_of_record moments) rows))
+      ∙ ap (λ (first : Option RowFault). fault_or_rows first (filter_map (row_of_record moments) rows))
       (the_first (row_fault_at moments rows) (first_row_fault moments None 1 rows) fault
       (first_row_is_least rows) least)
 
@@ -96,7 +96,7 @@ module _ (moments : KnownMoments) where
   not_behind None after e = omega arith
   not_behind (Some last) after e = ltb-false after last e
 
-  no_fault : (own later : Option TraceFault) → option_or own later ≡ None → (own ≡ None) × (later ≡ None)
+  no_fault : (own later : Option RowFault) → option_or own later ≡ None → (own ≡ None) × (later ≡ None)
   no_fault None later e = (refl, e)
   no_fault (Some fault) later e = absurd cc
 
@@ -137,7 +137,7 @@ module _ (moments : KnownMoments) where
           (no_kind number (fields_fault moments.publications last fields) own) in
           rw says (time.0, time.1, later (Some fields.after) (number + 1) rest)
 
-  judged_ok : (first : Option TraceFault) (said rows : List RowFields) → fault_or_rows first said ≡ Ok rows
+  judged_ok : (first : Option RowFault) (said rows : List RowFields) → fault_or_rows first said ≡ Ok rows
       → (first ≡ None) × (said ≡ rows)
   judged_ok None said rows e = let same : said ≡ rows = cc in (refl, same)
   judged_ok (Some fault) said rows e = absurd cc

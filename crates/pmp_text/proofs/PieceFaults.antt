@@ -6,7 +6,7 @@ use Rattle.std.specs.List.{position_from}
 use Rattle.std.specs.Option.{option_or}
 use Rattle.std.proofs.lemmas.List.{length-append}
 use Rattle.std.proofs.lemmas.List.Elements.{filter_map-append}
-use Rattle.pmp_text.specs.declared.trace.TraceFault.{TraceFault}
+use Rattle.pmp_text.specs.declared.trace.RowFault.{RowFault}
 use Rattle.pmp_text.specs.declared.refusal.Refusal.TheVariants.{BadHeader, BadRow}
 use Rattle.pmp_text.specs.declared.trace.rows.Place.{Place}
 use Rattle.pmp_text.specs.LongTraces.{HasTooManyRows, Records, first_fault_at, has_begun, is_bare_record, last_after}
@@ -66,7 +66,7 @@ module _ (moments : KnownMoments) where
       (first_row_fault moments (last_after moments after rows) n more)) number
 
   module _ (last : Option ℕ) (next : ℕ) where
-    abbrev next_fault : Bool → Records → Records → Option TraceFault
+    abbrev next_fault : Bool → Records → Records → Option RowFault
     next_fault begun records more = first_fault_at moments (has_begun begun records)
         (last_after moments last (row_records begun records)) (next + length (row_records begun records)) more
 
@@ -87,7 +87,7 @@ module _ (moments : KnownMoments) where
 
   -- ---- a broken record
 
-  abbrev broken_fault : Bool → ℕ → TraceFault
+  abbrev broken_fault : Bool → ℕ → RowFault
   broken_fault begun next = cond begun (at_row next (as_whole BadRow)) (at_row 0 (as_whole BadHeader))
 
   broken_here : (begun : Bool) (last : Option ℕ) (next : ℕ) (one : List (List ℕ)) (rest : Records)
@@ -96,7 +96,7 @@ module _ (moments : KnownMoments) where
   broken_here true last next one rest e = rw (no_row moments one e) refl
   broken_here false last next one rest e = rw (no_header one e) refl
 
-  abbrev fault_with : Place → Records → Option TraceFault
+  abbrev fault_with : Place → Records → Option RowFault
   fault_with place front = option_or (piece_fault moments place front)
       (Some (broken_fault (has_begun place.begun front) (place.next + length (row_records place.begun front))))
 
@@ -108,7 +108,7 @@ module _ (moments : KnownMoments) where
       (last_after moments place.last (row_records place.begun front))
       (place.next + length (row_records place.begun front)) one rest e)
 
-  some_or : (x : Option TraceFault) (fault : TraceFault) → option_or x (Some fault) ≡ None → ⊥
+  some_or : (x : Option RowFault) (fault : RowFault) → option_or x (Some fault) ≡ None → ⊥
   some_or None fault e = absurd cc
   some_or (Some other) fault e = absurd cc
 
@@ -144,12 +144,12 @@ module _ (moments : KnownMoments) where
           )
     ]
 
-    pub fault_stays : (fault : TraceFault) → piece_fault moments place (records_of (bytes ++ e ∷ [])) ≡ Some fault
+    pub fault_stays : (fault : RowFault) → piece_fault moments place (records_of (bytes ++ e ∷ [])) ≡ Some fault
         → (more : List ℕ) → piece_fault moments place (records_of (bytes ++ e ∷ more)) ≡ Some fault
     fault_stays fault found more = elim (cut_in_two bytes e ends) [
       | inl in_two ↦ ap (piece_fault moments place) (in_two more)
           ∙ in_turn place.last place.next place.begun (records_of (bytes ++ e ∷ [])) (records_of (e ∷ more))
-          ∙ ap (λ (x : Option TraceFault). option_or x (next_fault place.last place.next place.begun
+          ∙ ap (λ (x : Option RowFault). option_or x (next_fault place.last place.next place.begun
           (records_of (bytes ++ e ∷ [])) (records_of (e ∷ more)))) found
       | inr (front, goes_on) ↦
           let (one, rest, are, broken) = goes_on [] in
@@ -248,7 +248,7 @@ too_many_behind moments place records more fine many =
       behind = many.behind;
       are = ap (λ (l : Records). records ++ l) many.are ∙ sym (append_assoc records many.front many.behind);
       fine = in_turn moments place.last place.next place.begun records many.front
-          ∙ ap (λ (x : Option TraceFault). option_or x (piece_fault moments behind many.front)) fine ∙ many.fine;
+          ∙ ap (λ (x : Option RowFault). option_or x (piece_fault moments behind many.front)) fine ∙ many.fine;
       many = subst (λ (p : Place). 2 ^ 64 ≤ p.next) (sym (places_in_turn moments place records many.front)) many.many;
     }
 

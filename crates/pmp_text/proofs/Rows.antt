@@ -5,7 +5,7 @@ use Rattle.std.specs.Prelude.{filter_map}
 use Rattle.std.proofs.lemmas.Bool.{cond-true, cond-false, lt-ltb, le-ltb}
 use Rattle.pmp_text.specs.declared.refusal.Refusal.TheVariants.{BadHeader, TooLong}
 use Rattle.pmp_text.specs.Moments.{KnownMoments}
-use Rattle.pmp_text.specs.declared.trace.TraceFault.{TraceFault}
+use Rattle.pmp_text.specs.declared.trace.RowFault.{RowFault}
 use Rattle.pmp_text.specs.Tables.{behind_header, fault_or_rows, records_of, within_limit}
 use Rattle.pmp_text.specs.Traces.{is_header, rows_meaning, trace_meaning}
 use Rattle.pmp_text.specs.declared.policy.row_fields.PolicyFields.{PolicyFields}
@@ -17,7 +17,7 @@ use Rattle.pmp_text.specs.Flaws.{at_row, as_whole}
 module _ (labeled : Bool) (moments : KnownMoments) where
   -- what is meant where so many rows of a policy were read, which say this, and these records are left
   abbrev pub with_policy_read : (count : ℕ) → List PolicyFields → List (List (List ℕ))
-      → Result (List PolicyFields) TraceFault
+      → Result (List PolicyFields) RowFault
   with_policy_read count rows left = fault_or_rows (first_policy_fault labeled moments (count + 1) left)
       (rows ++ filter_map (policy_of_record labeled moments) left)
 
@@ -37,7 +37,7 @@ module _ (labeled : Bool) (moments : KnownMoments) where
 
 -- ---- from the header on
 
-module _ {X : Type 0} (is_header : List (List ℕ) → Bool) (meaning : List (List (List ℕ)) → Result (List X) TraceFault)
+module _ {X : Type 0} (is_header : List (List ℕ) → Bool) (meaning : List (List (List ℕ)) → Result (List X) RowFault)
   where
     pub long_text : (text : List ℕ) → MAX_TRACE < length text
         → within_limit (behind_header is_header meaning) text ≡ Err (at_row 0 (as_whole TooLong))
@@ -49,7 +49,7 @@ module _ {X : Type 0} (is_header : List (List ℕ) → Bool) (meaning : List (Li
 
     module _ (records : List (List (List ℕ))) where
       module _ (header : List (List ℕ)) (rows : List (List (List ℕ))) (are : records ≡ header ∷ rows) where
-        abbrev with_header : Bool → Result (List X) TraceFault
+        abbrev with_header : Bool → Result (List X) RowFault
         with_header is = cond is (meaning rows) (Err (at_row 0 (as_whole BadHeader)))
 
         pub this_header : is_header header ≡ true → behind_header is_header meaning records ≡ meaning rows

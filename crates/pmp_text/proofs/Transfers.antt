@@ -2,7 +2,7 @@
 use Rattle.std.proofs.Common.{◌≡◌, ℕ, ◌+◌, ◌-◌, ◌<◌, ◌≤◌, List, ◌++◌, length, take, drop, sym, ap, ◌∙◌, append_assoc}
 use Rattle.std.proofs.Common.{take-append-drop, length-append, length-take, arith, Option, Some, None, IfSome, inl, inr}
 use Rattle.pmp_text.specs.Inputs.{CantReadPart, CantReadWhole}
-use Rattle.pmp_text.specs.declared.refusal.Refusal.{Refusal}
+use Rattle.pmp_text.specs.declared.input.InputFault.{InputFault}
 use Rattle.std.proofs.lemmas.List.{take_rest}
 use Rattle.std.proofs.KnownBytes.{Consumes-kept, Consumes-trans}
 use Rattle.std.specs.Io.KnownBytes.{Consumes}
@@ -41,10 +41,10 @@ Takes-more (Some left) (Some rest) limit (bytes, split, counted) =
     omega (arith, ap length split, length-append bytes rest)
 
 -- what a reader's rest can't be read for, all of it can't
-pub CantReadWhole-after : (a b c : Option (List ℕ)) (held : List ℕ) (room limit : ℕ) (refusal : Refusal)
-    → Consumes a b held → length held + room ≡ limit → CantReadPart room b c refusal → CantReadWhole limit a c refusal
-CantReadWhole-after a b c held room limit refusal first sum (inl (is, taken)) =
+pub CantReadWhole-after : (a b c : Option (List ℕ)) (held : List ℕ) (room limit : ℕ) (fault : InputFault)
+    → Consumes a b held → length held + room ≡ limit → CantReadPart room b c fault → CantReadWhole limit a c fault
+CantReadWhole-after a b c held room limit fault first sum (inl (is, taken)) =
     let all = Takes-after a b c held (room + 1) (limit + 1) first taken (omega (arith, sum)) in
     inl (is, Takes-more a c limit all, all)
-CantReadWhole-after a b c held room limit refusal first sum (inr (is, keeps)) =
+CantReadWhole-after a b c held room limit fault first sum (inr (is, keeps)) =
     inr (inl is, (held, Consumes-kept a b c held first keeps, omega (arith, sum)))

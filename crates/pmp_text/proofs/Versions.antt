@@ -12,9 +12,9 @@ use Rattle.pmp_core.specs.declared.size.Size.{Size}
 use Rattle.pmp_core.specs.declared.size.Size.TheVariants.{Sixteen, SixtyFour}
 use Rattle.pmp_core.specs.Histories.{joined}
 use Rattle.pmp_core.specs.SizeLaw.{DecideAlike, SizeLaw, writes_first}
-use Rattle.pmp_text.specs.declared.script.ScriptFault.{ScriptFault}
+use Rattle.pmp_text.specs.declared.script.LineFault.{LineFault}
 use Rattle.pmp_text.specs.declared.refusal.Refusal.TheVariants.{TooLong}
-use Rattle.pmp_text.specs.declared.trace.Row.{Row}
+use Rattle.pmp_text.specs.declared.trace.TraceRow.{TraceRow}
 use Rattle.pmp_text.specs.Contents.{Publications, ScriptContents}
 use Rattle.pmp_text.specs.declared.script.reader.TheConstants.{MAX_SCRIPT}
 use Rattle.pmp_text.specs.Lines.{words, lines}
@@ -62,7 +62,7 @@ names_one = refl
 
 -- ---- version 1
 
-abbrev read_lines : Line → List Line → Result Publications ScriptFault
+abbrev read_lines : Line → List Line → Result Publications LineFault
 read_lines version more = published_behind version more (Sized Sixteen)
 
 lines_in_one : (version : Line) (more : List Line) → version.words ≡ one_says
@@ -76,7 +76,7 @@ module _ (text : List ℕ) (is : IsVersionOne text) where
   named_one : version_named is.version.words ≡ Some (Sized Sixteen)
   named_one = ap version_named is.says ∙ names_sixteen
 
-  by_length : (long : Bool) (ls : Result ScriptContents ScriptFault) (in_one : Result Publications ScriptFault)
+  by_length : (long : Bool) (ls : Result ScriptContents LineFault) (in_one : Result Publications LineFault)
       → ls ≡ for_unit Sixteen in_one → cond long (Err (at_line 0 (as_whole TooLong))) ls
       ≡ for_unit Sixteen (cond long (Err (at_line 0 (as_whole TooLong))) in_one)
   by_length true ls in_one same = refl
@@ -169,11 +169,11 @@ unfolding significant_from
 lines_behind text ls e = ap (significant 1) e
 
 -- what comes of a step and these lines behind it
-abbrev on : Size → List Line → Result Reading ScriptFault → Result Read ScriptFault
+abbrev on : Size → List Line → Result Reading LineFault → Result Read LineFault
 on size more step = elim step [ Ok next ↦ resumed (Sized size) next more | Err fault ↦ Err fault ]
 
 -- reading goes on alike for both sizes
-goes_alike : (step : Result Reading ScriptFault) (more : List Line)
+goes_alike : (step : Result Reading LineFault) (more : List Line)
     → ((so_far : Reading) → resumed (Sized Sixteen) so_far more ≡ resumed (Sized SixtyFour) so_far more)
     → on Sixteen more step ≡ on SixtyFour more step
 goes_alike (Ok next) more alike = alike next
@@ -219,12 +219,12 @@ of_size size all = record {
 }
 
 -- what was read of a script of version 1
-record WasRead (script : ScriptContents) (read : Result Read ScriptFault) : Type 0 where
+record WasRead (script : ScriptContents) (read : Result Read LineFault) : Type 0 where
   all : Read
   reads : read ≡ Ok all
   is : of_size Sixteen all ≡ script
 
-was_read : (read : Result Read ScriptFault) (script : ScriptContents) → concluded (Sized Sixteen) read ≡ Ok script
+was_read : (read : Result Read LineFault) (script : ScriptContents) → concluded (Sized Sixteen) read ≡ Ok script
     → WasRead script read
 was_read (Ok all) script e = record { all = all; reads = refl; is = cc }
 was_read (Err fault) script e = absurd cc
@@ -290,17 +290,17 @@ module _ (law : SizeLaw) (read : Read) (all : list_all (writes_first 16) (joined
   abbrev batches : List (List Event)
   batches = read.published.batches
 
-  alike : (row : Row)
+  alike : (row : TraceRow)
       → DecideAlike (file_of_script (sized Sixteen) row.after) (file_of_script (sized SixtyFour) row.after) row.access
   alike row = law (profile_with 16) 16 64 (joined (take row.after batches)) row.access (omega arith) (omega arith)
       (usual 64 (omega arith)) (fewer_events batches row.after all)
 
-  abbrev Decides : Size → Row → Decision → Type 0
+  abbrev Decides : Size → TraceRow → Decision → Type 0
   Decides size row decision = IsDecision (file_of_script (sized size) row.after) row.access decision
 
-  module _ (size other : Size) (passes : (row : Row) (decision : Decision) → Decides size row decision
+  module _ (size other : Size) (passes : (row : TraceRow) (decision : Decision) → Decides size row decision
       → Decides other row decision) where
-    decided_in : (rows : List Row) (decisions : List Decision)
+    decided_in : (rows : List TraceRow) (decisions : List Decision)
         → AreDecided (sized size) rows decisions → AreDecided (sized other) rows decisions
     decided_in [] [] decided = tt
     decided_in [] (decision ∷ decisions) decided = absurd decided

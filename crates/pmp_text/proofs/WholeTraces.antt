@@ -5,8 +5,8 @@ use Rattle.std.proofs.Common.{append-nil}
 use Rattle.std.proofs.lemmas.List.{length-append, map-append}
 use Rattle.std.specs.Prelude.{filter_map}
 use Rattle.pmp_text.specs.declared.refusal.Refusal.TheVariants.{BadHeader}
-use Rattle.pmp_text.specs.declared.trace.Row.{Row}
-use Rattle.pmp_text.specs.declared.trace.TraceFault.{TraceFault}
+use Rattle.pmp_text.specs.declared.trace.TraceRow.{TraceRow}
+use Rattle.pmp_text.specs.declared.trace.RowFault.{RowFault}
 use Rattle.pmp_text.specs.declared.trace.rows.Place.{Place}
 use Rattle.pmp_text.specs.declared.trace.reader.TheConstants.{MAX_TRACE}
 use Rattle.pmp_text.specs.Flaws.{as_whole, at_row}
@@ -23,7 +23,7 @@ use Rattle.pmp_text.proofs.CutTexts.{few_records}
 use Rattle.pmp_text.proofs.Rows.{by_records, trace_is}
 
 -- the first fault of all records is what they mean
-pub faulty_records : (moments : KnownMoments) (first : ℕ) (records : Records) (fault : TraceFault)
+pub faulty_records : (moments : KnownMoments) (first : ℕ) (records : Records) (fault : RowFault)
     → piece_fault moments (beginning first) records ≡ Some fault
     → long_meaning moments first records ≡ Err fault
 faulty_records moments first [] fault e = absurd cc
@@ -32,7 +32,7 @@ faulty_records moments first (header ∷ rows) fault e = by (is_header header) e
     by : (named : Bool)
         → cond named (first_row_fault moments None first rows) (Some (at_row 0 (as_whole BadHeader))) ≡ Some fault
         → cond named (long_rows_meaning moments first rows) (Err (at_row 0 (as_whole BadHeader))) ≡ Err fault
-    by true e = ap (λ (f : Option TraceFault). fault_or_rows f (filter_map (row_of_record moments) rows)) e
+    by true e = ap (λ (f : Option RowFault). fault_or_rows f (filter_map (row_of_record moments) rows)) e
     by false e = let same : at_row 0 (as_whole BadHeader) ≡ fault = cc in ap Err same
 
 pub fine_records : (moments : KnownMoments) (first : ℕ) (records : Records)
@@ -45,7 +45,7 @@ fine_records moments first (header ∷ rows) e begun = by (is_header header) e
         → cond named (first_row_fault moments None first rows) (Some (at_row 0 (as_whole BadHeader))) ≡ None
         → cond named (long_rows_meaning moments first rows) (Err (at_row 0 (as_whole BadHeader)))
         ≡ Ok (filter_map (row_of_record moments) rows)
-    by true e = ap (λ (f : Option TraceFault). fault_or_rows f (filter_map (row_of_record moments) rows)) e
+    by true e = ap (λ (f : Option RowFault). fault_or_rows f (filter_map (row_of_record moments) rows)) e
     by false e = absurd cc
 
 pub no_records : (records : Records) → has_begun false records ≡ false → records ≡ []
@@ -58,7 +58,7 @@ fewer_rows false [] = omega arith
 fewer_rows false (header ∷ rows) = omega arith
 
 -- these rows were read of some records, and these are left
-pub record ReadSoFar (moments : KnownMoments) (first : ℕ) (all : Records) (rows : List Row)
+pub record ReadSoFar (moments : KnownMoments) (first : ℕ) (all : Records) (rows : List TraceRow)
     (left : RowsLeft) : Type 0 where
   pub same : left.moments ≡ moments
   pub fault : first_row_fault moments None first all
@@ -76,8 +76,8 @@ none_read left first = record {
   count = refl;
 }
 
-pub one_row_more : (moments : KnownMoments) (first : ℕ) (all : Records) (rows : List Row) (before after : RowsLeft)
-    (row : Row)
+pub one_row_more : (moments : KnownMoments) (first : ℕ) (all : Records) (rows : List TraceRow) (before after : RowsLeft)
+    (row : TraceRow)
     → ReadSoFar moments first all rows before → IsNextRow before row after
     → ReadSoFar moments first all (rows ++ row ∷ []) after
 one_row_more moments first all rows before after row read is =
@@ -110,16 +110,16 @@ one_row_more moments first all rows before after row read is =
     }
 
 -- the rows are read to their end, or to a fault
-module _ (moments : KnownMoments) (first : ℕ) (all : Records) (numbered : first + length all < 2 ^ 64) (rows : List Row)
+module _ (moments : KnownMoments) (first : ℕ) (all : Records) (numbered : first + length all < 2 ^ 64) (rows : List TraceRow)
     (left : RowsLeft) (read : ReadSoFar moments first all rows left) where
   pub with_rows : left.records ≡ [] → long_rows_meaning moments first all ≡ Ok (map row_fields rows)
   with_rows none =
       let fine = read.fault ∙ ap (first_row_fault moments left.place.last left.place.next) none in
       let said = read.said ∙ ap (λ (l : Records). map row_fields rows ++ filter_map (row_of_record moments) l) none
       ∙ append-nil (map row_fields rows) in
-      ap (λ (f : Option TraceFault). fault_or_rows f (filter_map (row_of_record moments) all)) fine ∙ ap Ok said
+      ap (λ (f : Option RowFault). fault_or_rows f (filter_map (row_of_record moments) all)) fine ∙ ap Ok said
 
-  pub not_read : (fault : TraceFault)
+  pub not_read : (fault : RowFault)
       → (first_row_fault left.moments left.place.last left.place.next left.records ≡ Some fault)
       ⊎ (fault ≡ no_memory_for_rows) ⊎ (fault ≡ no_input_for_rows)
       ⊎ ((fault ≡ too_long_for_rows) × IsOutOfNumbers left)
@@ -127,7 +127,7 @@ module _ (moments : KnownMoments) (first : ℕ) (all : Records) (numbered : firs
       ⊎ (fault ≡ no_input_for_rows)
   not_read fault (inl e) =
       let found = read.fault ∙ rw read.same at e in
-      inl (ap (λ (f : Option TraceFault). fault_or_rows f (filter_map (row_of_record moments) all)) found)
+      inl (ap (λ (f : Option RowFault). fault_or_rows f (filter_map (row_of_record moments) all)) found)
   not_read fault (inr (inl memory)) = inr (inl memory)
   not_read fault (inr (inr (inl input))) = inr (inr input)
   not_read fault (inr (inr (inr (long, out)))) =
@@ -154,11 +154,11 @@ module _ (moments : KnownMoments) (text : List ℕ) (short : length text ≤ MAX
       → trace_meaning moments text ≡ Err (at_row 0 (as_whole BadHeader))
   without_header begun = meaning_is ∙ ap (long_meaning moments 1) (no_records all begun)
 
-  pub found : (fault : TraceFault) → piece_fault moments (beginning 1) all ≡ Some fault
+  pub found : (fault : RowFault) → piece_fault moments (beginning 1) all ≡ Some fault
       → trace_meaning moments text ≡ Err fault
   found fault e = meaning_is ∙ faulty_records moments 1 all fault e
 
-  pub not_opened : (fault : TraceFault) → (piece_fault moments (beginning 1) all ≡ Some fault)
+  pub not_opened : (fault : RowFault) → (piece_fault moments (beginning 1) all ≡ Some fault)
       ⊎ (fault ≡ no_memory_for_rows) ⊎ (fault ≡ no_input_for_rows)
       → (trace_meaning moments text ≡ Err fault) ⊎ (fault ≡ no_memory_for_rows) ⊎ (fault ≡ no_input_for_rows)
   not_opened fault (inl e) = inl (found fault e)

@@ -5,8 +5,8 @@ use Rattle.std.specs.Prelude.{Ok, Err, ⊤}
 use Rattle.std.specs.Io.KnownBytes.{Consumes, IsAtEnd}
 use Rattle.pmp_text.specs.declared.cutter.Cut.{Cut}
 use Rattle.pmp_text.specs.declared.cutter.Cut.TheVariants.{Front, Last}
-use Rattle.pmp_text.specs.declared.refusal.Refusal.{Refusal}
-use Rattle.pmp_text.specs.declared.refusal.Refusal.TheVariants.{TooLong, Input, Memory}
+use Rattle.pmp_text.specs.declared.input.InputFault.{InputFault}
+use Rattle.pmp_text.specs.declared.input.InputFault.TheVariants.{TooLong, Input, Memory}
 use Rattle.pmp_text.specs.LongTraces.{HasLongLine}
 use Rattle.pmp_text.specs.Lines.{is_line_feed}
 use Rattle.pmp_text.specs.Tables.{is_line_end}
@@ -51,13 +51,12 @@ pub record IsUncut (limit : ℕ) (held : List ℕ) (old new : Option (List ℕ))
   pub line : HasLongLine (held ++ taken) (limit - 1)
 
 abbrev pub IsCut : (limit : ℕ) (held : List ℕ) (old new : Option (List ℕ)) (left : List ℕ)
-    → Result Cut Refusal → Type 0
+    → Result Cut InputFault → Type 0
 IsCut limit held old new left (Ok (Front piece)) = IsFront limit held old new left piece.items
 IsCut limit held old new left (Ok (Last piece)) = IsLast limit held old new piece.items
 IsCut limit held old new left (Err TooLong) = IsUncut limit held old new
 IsCut limit held old new left (Err Input) = ⊤
 IsCut limit held old new left (Err Memory) = ⊤
-IsCut limit held old new left (Err _) = ⊥
 
 -- ---- lines by LF
 
@@ -79,10 +78,9 @@ pub record IsLongLine (limit : ℕ) (held : List ℕ) (old new : Option (List �
   pub unended : list_any is_line_feed (held ++ taken) ≡ false
 
 abbrev pub IsLineCut : (limit : ℕ) (held : List ℕ) (old new : Option (List ℕ)) (left : List ℕ)
-    → Result Cut Refusal → Type 0
+    → Result Cut InputFault → Type 0
 IsLineCut limit held old new left (Ok (Front piece)) = AreLines limit held old new left piece.items
 IsLineCut limit held old new left (Ok (Last piece)) = IsLast limit held old new piece.items
 IsLineCut limit held old new left (Err TooLong) = IsLongLine limit held old new
 IsLineCut limit held old new left (Err Input) = ⊤
 IsLineCut limit held old new left (Err Memory) = ⊤
-IsLineCut limit held old new left (Err _) = ⊥

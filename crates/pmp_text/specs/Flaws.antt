@@ -3,8 +3,8 @@ use Rattle.std.specs.Prelude.{ℕ, Option, Some, None, Result, Ok, Err}
 use Rattle.pmp_text.specs.declared.flaw.Flaw.{Flaw}
 use Rattle.pmp_text.specs.declared.refusal.Refusal.{Refusal}
 use Rattle.pmp_text.specs.declared.refusal.Refusal.TheVariants.{BadRow}
-use Rattle.pmp_text.specs.declared.script.ScriptFault.{ScriptFault}
-use Rattle.pmp_text.specs.declared.trace.TraceFault.{TraceFault}
+use Rattle.pmp_text.specs.declared.script.LineFault.{LineFault}
+use Rattle.pmp_text.specs.declared.trace.RowFault.{RowFault}
 
 -- the word or field with this index, from 0, is at fault
 abbrev pub part : (index : ℕ) → Refusal → Flaw
@@ -15,11 +15,11 @@ abbrev pub as_whole : Refusal → Flaw
 as_whole kind = record { kind = kind; part = None }
 
 -- the fault of a line with this number
-abbrev pub at_line : ℕ → Flaw → ScriptFault
+abbrev pub at_line : ℕ → Flaw → LineFault
 at_line number flaw = record { kind = flaw.kind; line = number; word = flaw.part }
 
 -- the fault of a row with this number
-abbrev pub at_row : ℕ → Flaw → TraceFault
+abbrev pub at_row : ℕ → Flaw → RowFault
 at_row number flaw = record { kind = flaw.kind; row = number; field = flaw.part }
 
 -- the result for the field with this index, which is at fault if it can't be read

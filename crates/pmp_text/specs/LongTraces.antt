@@ -5,8 +5,8 @@ use Rattle.std.specs.Prelude.{Option, Some, None, Result, Ok, if◌then◌else�
 use Rattle.std.specs.List.{zip, enumerate_from, flat_map, list_any, position_from}
 use Rattle.std.specs.Option.{option_or}
 use Rattle.pmp_core.specs.declared.decision.Decision.{Decision}
-use Rattle.pmp_text.specs.declared.trace.Row.{Row}
-use Rattle.pmp_text.specs.declared.trace.TraceFault.{TraceFault}
+use Rattle.pmp_text.specs.declared.trace.TraceRow.{TraceRow}
+use Rattle.pmp_text.specs.declared.trace.RowFault.{RowFault}
 use Rattle.pmp_text.specs.declared.refusal.Refusal.TheVariants.{BadHeader, TooLong}
 use Rattle.pmp_text.specs.declared.trace.rows.Place.{Place}
 use Rattle.pmp_text.specs.declared.trace.row_fields.RowFields.{RowFields}
@@ -23,22 +23,22 @@ Records = List (List (List ℕ))
 -- ---- the whole
 
 -- what the rows of a trace mean, numbered from `first`
-abbrev pub long_rows_meaning : KnownMoments → (first : ℕ) → Records → Result (List RowFields) TraceFault
+abbrev pub long_rows_meaning : KnownMoments → (first : ℕ) → Records → Result (List RowFields) RowFault
 long_rows_meaning moments first rows =
     fault_or_rows (first_row_fault moments None first rows) (filter_map (row_of_record moments) rows)
 
 -- what the records of a trace of any length mean: numbered from 1, as those of a text within the limit
-abbrev pub long_meaning : KnownMoments → (first : ℕ) → Records → Result (List RowFields) TraceFault
+abbrev pub long_meaning : KnownMoments → (first : ℕ) → Records → Result (List RowFields) RowFault
 long_meaning moments first = behind_header is_header (long_rows_meaning moments first)
 
 -- a report row for each decision, numbered from `first`
-unfoldable pub report_text_from : (first : ℕ) → List Row → List Decision → List ℕ
+unfoldable pub report_text_from : (first : ℕ) → List TraceRow → List Decision → List ℕ
 report_text_from first rows decisions = flat_map (λ (number, (row, decision)). report_row number row.access decision)
     (enumerate_from first (zip rows decisions))
 
 -- the records are a header and these rows, and the text reports their decisions
 pub record IsReportOf (script : ScriptContents) (first : ℕ) (records : Records) (text : List ℕ) : Type 0 where
-  pub rows : List Row
+  pub rows : List TraceRow
   pub decisions : List Decision
   pub records_mean : long_meaning (moments_in script) first records ≡ Ok (map row_fields rows)
   pub decided : AreDecided script rows decisions
@@ -100,13 +100,13 @@ place_behind moments place records = record {
 
 -- the first fault of records at this place; only the end of a trace shows that there is no header
 abbrev pub first_fault_at : KnownMoments → (begun : Bool) → (last : Option ℕ) → (next : ℕ) → Records
-    → Option TraceFault
+    → Option RowFault
 first_fault_at moments true last next rows = first_row_fault moments last next rows
 first_fault_at moments false last next [] = None
 first_fault_at moments false last next (header ∷ rows) =
     if is_header header then first_row_fault moments last next rows else Some (at_row 0 (as_whole BadHeader))
 
-abbrev pub piece_fault : KnownMoments → Place → Records → Option TraceFault
+abbrev pub piece_fault : KnownMoments → Place → Records → Option RowFault
 piece_fault moments place = first_fault_at moments place.begun place.last place.next
 
 -- rows without a fault come first, and the last one would have the number 2^64 - 1 or more
@@ -122,5 +122,5 @@ abbrev pub beginning : (first : ℕ) → Place
 beginning first = record { begun = false; last = None; next = first; bare = None }
 
 -- a row or a line is too long, which is no row's fault
-abbrev pub too_long_for_rows : TraceFault
+abbrev pub too_long_for_rows : RowFault
 too_long_for_rows = at_row 0 (as_whole TooLong)

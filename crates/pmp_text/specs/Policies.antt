@@ -20,7 +20,7 @@ use Rattle.pmp_text.specs.declared.policy.row_fields.PolicyFields.{PolicyFields}
 use Rattle.pmp_text.specs.declared.policy.row_fields.TheConstants.{COMMENT, NAME}
 use Rattle.pmp_text.specs.declared.flaw.Flaw.{Flaw}
 use Rattle.pmp_text.specs.declared.refusal.Refusal.TheVariants.{BadRow, BadAfter, PastEnd}
-use Rattle.pmp_text.specs.declared.trace.TraceFault.{TraceFault}
+use Rattle.pmp_text.specs.declared.trace.RowFault.{RowFault}
 use Rattle.pmp_text.specs.declared.moments.Asked.{Asked}
 use Rattle.pmp_text.specs.AccessWords.{kind_named}
 use Rattle.pmp_text.specs.Moments.{KnownMoments, asked_between, moment_said, to_said}
@@ -232,7 +232,7 @@ policy_row_fault publications (Ok row) = policy_fields_fault publications row
 
 -- the fault of the first row that has one; the first row has this number
 abbrev pub first_policy_fault : (labeled : Bool) → KnownMoments → (number : ℕ) → List (List (List ℕ))
-    → Option TraceFault
+    → Option RowFault
 first_policy_fault labeled moments number [] = None
 first_policy_fault labeled moments number (row ∷ more) =
     option_or (option_map (at_row number) (policy_row_fault moments.publications (policy_in labeled moments row)))
@@ -240,11 +240,11 @@ first_policy_fault labeled moments number (row ∷ more) =
 
 -- the rows are numbered from 1
 abbrev pub policy_rows_meaning : (labeled : Bool) → KnownMoments → List (List (List ℕ))
-    → Result (List PolicyFields) TraceFault
+    → Result (List PolicyFields) RowFault
 policy_rows_meaning labeled moments rows =
     fault_or_rows (first_policy_fault labeled moments 1 rows) (filter_map (policy_of_record labeled moments) rows)
 
 -- what a text means as a policy for a script with these moments
-unfoldable pub policy_meaning : KnownMoments → List ℕ → Result (List PolicyFields) TraceFault
+unfoldable pub policy_meaning : KnownMoments → List ℕ → Result (List PolicyFields) RowFault
 policy_meaning moments text = within_limit
     (behind_header is_policy_header (policy_rows_meaning (is_labeled (records_of text)) moments)) text

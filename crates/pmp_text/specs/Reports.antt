@@ -12,7 +12,7 @@ use Rattle.pmp_core.specs.FaultCode.{fault_of}
 use Rattle.pmp_core.specs.Histories.{joined}
 use Rattle.pmp_core.specs.RegisterFile.{RegisterFile}
 use Rattle.pmp_core.specs.RegisterWrite.{step}
-use Rattle.pmp_text.specs.declared.trace.Row.{Row}
+use Rattle.pmp_text.specs.declared.trace.TraceRow.{TraceRow}
 use Rattle.pmp_text.specs.Contents.{ScriptContents}
 use Rattle.pmp_text.specs.Moments.{moments_in}
 use Rattle.pmp_text.specs.Traces.{row_fields, trace_meaning}
@@ -63,19 +63,19 @@ abbrev pub file_of_script : ScriptContents → (done : ℕ) → RegisterFile
 file_of_script script done = file_behind script.start (take done script.batches)
 
 -- a decision for each row, the manual's in the file after the publications that the row asks for (3.7.1.3)
-abbrev pub AreDecided : ScriptContents → List Row → List Decision → Type 0
+abbrev pub AreDecided : ScriptContents → List TraceRow → List Decision → Type 0
 AreDecided script rows decisions =
     AllZip (λ row decision. IsDecision (file_of_script script row.after) row.access decision) rows decisions
 
 -- a report row for each decision, numbered from 1
-unfoldable pub report_text : List Row → List Decision → List ℕ
+unfoldable pub report_text : List TraceRow → List Decision → List ℕ
 report_text rows decisions =
     let numbered = enumerate_from 1 (zip rows decisions) in
     flat_map (λ (number, (row, decision)). report_row number row.access decision) numbered
 
 -- the trace has these rows, and the text reports their decisions
 pub record IsReport (script : ScriptContents) (trace text : List ℕ) : Type 0 where
-  pub rows : List Row
+  pub rows : List TraceRow
   pub decisions : List Decision
   pub trace_means : trace_meaning (moments_in script) trace ≡ Ok (map row_fields rows)
   pub decided : AreDecided script rows decisions

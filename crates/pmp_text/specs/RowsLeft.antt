@@ -1,7 +1,7 @@
 -- Reading the rows of a trace one by one.
 use Rattle.std.specs.Prelude.{◌≡◌, ℕ, ◌+◌, ◌^◌, ◌<◌, ◌≤◌, List, ◌∷◌, Some, None, Ok, if◌then◌else◌}
 use Rattle.std.specs.Option.{option_or}
-use Rattle.pmp_text.specs.declared.trace.Row.{Row}
+use Rattle.pmp_text.specs.declared.trace.TraceRow.{TraceRow}
 use Rattle.pmp_text.specs.declared.trace.rows.Place.{Place}
 use Rattle.pmp_text.specs.LongTraces.{Records}
 use Rattle.pmp_text.specs.Moments.{KnownMoments}
@@ -14,7 +14,7 @@ pub record RowsLeft : Type 0 where
   pub place : Place
 
 -- the place after a row at this place
-abbrev pub place_after : Place → Row → Place
+abbrev pub place_after : Place → TraceRow → Place
 place_after place row = record {
   begun = place.begun;
   last = Some row.after;
@@ -23,7 +23,7 @@ place_after place row = record {
 }
 
 -- the row is the next record's, it has no fault at its place, and the others follow it
-pub record IsNextRow (before : RowsLeft) (row : Row) (after : RowsLeft) : Type 0 where
+pub record IsNextRow (before : RowsLeft) (row : TraceRow) (after : RowsLeft) : Type 0 where
   pub fields : List (List ℕ)
   pub next : before.records ≡ fields ∷ after.records
   pub said : row_in before.moments fields ≡ Ok (row_fields row)

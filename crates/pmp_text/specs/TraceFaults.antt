@@ -2,7 +2,7 @@
 use Rattle.std.specs.Prelude.{◌≡◌, ℕ, zero, suc, ◌+◌, ◌≤◌, List, [], ◌∷◌, length, map, true, Option, None, Ok, Err, ⊤}
 use Rattle.std.specs.Prelude.{MatchOption, option_map, option_and_then, slice_get}
 use Rattle.pmp_text.specs.declared.trace.row_fields.RowFields.{RowFields}
-use Rattle.pmp_text.specs.declared.trace.TraceFault.{TraceFault}
+use Rattle.pmp_text.specs.declared.trace.RowFault.{RowFault}
 use Rattle.pmp_text.specs.Faults.{IsLeastFault}
 use Rattle.pmp_text.specs.Moments.{KnownMoments}
 use Rattle.pmp_text.specs.Tables.{records_of}
@@ -16,7 +16,7 @@ after_before moments last rows zero = last
 after_before moments last rows (suc index) = option_and_then (λ row. after_of (row_of_record moments row)) (slice_get rows index)
 
 -- the fault of the row with this index, by itself and the row before
-abbrev pub row_fault_at : KnownMoments → List (List (List ℕ)) → (index : ℕ) → Option TraceFault
+abbrev pub row_fault_at : KnownMoments → List (List (List ℕ)) → (index : ℕ) → Option RowFault
 row_fault_at moments rows index = option_and_then
     (λ row. option_map (at_row (index + 1))
     (row_fault moments.publications (after_before moments None rows index) (row_in moments row)))
@@ -32,7 +32,7 @@ FirstRowFaultLaw = (moments : KnownMoments) (rows : List (List (List ℕ)))
 -- a text with a header that isn't too long is refused with the fault of its first faulty row, if it has one
 abbrev pub LeastRowFaultLaw : Type 0
 LeastRowFaultLaw = (moments : KnownMoments) (text : List ℕ) (header : List (List ℕ)) (rows : List (List (List ℕ)))
-    (fault : TraceFault)
+    (fault : RowFault)
     → length text ≤ MAX_TRACE → records_of text ≡ header ∷ rows → is_header header ≡ true
     → IsLeastFault (row_fault_at moments rows) fault → trace_meaning moments text ≡ Err fault
 

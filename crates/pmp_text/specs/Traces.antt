@@ -8,10 +8,10 @@ use Rattle.pmp_core.specs.declared.access.AccessFault.{AccessFault}
 use Rattle.pmp_core.specs.declared.access.AccessFault.TheVariants as access
 use Rattle.pmp_core.specs.Access.{access_fault}
 use Rattle.pmp_text.specs.declared.trace.row_fields.RowFields.{RowFields}
-use Rattle.pmp_text.specs.declared.trace.Row.{Row}
+use Rattle.pmp_text.specs.declared.trace.TraceRow.{TraceRow}
 use Rattle.pmp_text.specs.declared.flaw.Flaw.{Flaw}
 use Rattle.pmp_text.specs.declared.refusal.Refusal.TheVariants.{BadRow, BadAfter, Order, BadLength, PastEnd}
-use Rattle.pmp_text.specs.declared.trace.TraceFault.{TraceFault}
+use Rattle.pmp_text.specs.declared.trace.RowFault.{RowFault}
 use Rattle.pmp_text.specs.AccessWords.{mode_named, kind_named}
 use Rattle.pmp_text.specs.Moments.{KnownMoments, after_said}
 use Rattle.pmp_text.specs.Numbers.{is_bare, word_number}
@@ -42,7 +42,7 @@ is_header fields = elim (five_fields fields) [ Some words ↦ names_fields words
 
 -- ---- one row
 
-abbrev pub row_fields : Row → RowFields
+abbrev pub row_fields : TraceRow → RowFields
 row_fields row = record {
   after = row.after;
   mode = row.access.mode;
@@ -53,7 +53,7 @@ row_fields row = record {
 }
 
 -- the number of the first of these rows whose start is bare; the first row is numbered `first`
-abbrev pub first_bare : (first : ℕ) → List Row → Option ℕ
+abbrev pub first_bare : (first : ℕ) → List TraceRow → Option ℕ
 first_bare = position_from (λ row. row.is_bare)
 
 -- what five words mean: a moment, a mode, a kind and two numbers
@@ -110,21 +110,21 @@ row_fault publications last (Ok row) = fields_fault publications last row
 
 -- the fault of the first row that has one; the first row has this number, and the row before asks for `last`
 abbrev pub first_row_fault : KnownMoments → (last : Option ℕ) → (number : ℕ) → List (List (List ℕ))
-    → Option TraceFault
+    → Option RowFault
 first_row_fault moments last number [] = None
 first_row_fault moments last number (row ∷ more) =
     option_or (option_map (at_row number) (row_fault moments.publications last (row_in moments row)))
     (first_row_fault moments (after_of (row_of_record moments row)) (number + 1) more)
 
 -- the rows are numbered from 1, and no row comes before the first one
-abbrev pub rows_meaning : KnownMoments → List (List (List ℕ)) → Result (List RowFields) TraceFault
+abbrev pub rows_meaning : KnownMoments → List (List (List ℕ)) → Result (List RowFields) RowFault
 rows_meaning moments rows =
     fault_or_rows (first_row_fault moments None 1 rows) (filter_map (row_of_record moments) rows)
 
 -- the rows follow the header
-abbrev pub records_meaning : KnownMoments → List (List (List ℕ)) → Result (List RowFields) TraceFault
+abbrev pub records_meaning : KnownMoments → List (List (List ℕ)) → Result (List RowFields) RowFault
 records_meaning moments = behind_header is_header (rows_meaning moments)
 
 -- what a text means for a script with these moments
-unfoldable pub trace_meaning : KnownMoments → List ℕ → Result (List RowFields) TraceFault
+unfoldable pub trace_meaning : KnownMoments → List ℕ → Result (List RowFields) RowFault
 trace_meaning moments text = within_limit (records_meaning moments) text

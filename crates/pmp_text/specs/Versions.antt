@@ -11,10 +11,10 @@ use Rattle.pmp_core.specs.Hart.{profile_of}
 use Rattle.pmp_core.specs.Histories.{joined, file_after}
 use Rattle.pmp_core.specs.RegisterFile.{IsLegal, reset_file}
 use Rattle.pmp_core.specs.SizeLaw.{writes_first}
-use Rattle.pmp_text.specs.declared.script.ScriptFault.{ScriptFault}
+use Rattle.pmp_text.specs.declared.script.LineFault.{LineFault}
 use Rattle.pmp_text.specs.declared.refusal.Refusal.TheVariants.{BadVersion, TooLong}
 use Rattle.pmp_text.specs.declared.script.version.Version.TheVariants.{Sized}
-use Rattle.pmp_text.specs.declared.trace.Row.{Row}
+use Rattle.pmp_text.specs.declared.trace.TraceRow.{TraceRow}
 use Rattle.pmp_text.specs.Contents.{Publications, ScriptContents}
 use Rattle.pmp_text.specs.declared.script.reader.TheConstants.{MAX_SCRIPT}
 use Rattle.pmp_text.specs.Lines.{words, lines}
@@ -35,7 +35,7 @@ is_version_one (name ∷ version ∷ []) = bytes_eq name (codes "pmp") && bytes_
 is_version_one _ = false
 
 -- what lines mean if version 1 is the only one
-abbrev pub lines_meaning_in_one : List Line → Result Publications ScriptFault
+abbrev pub lines_meaning_in_one : List Line → Result Publications LineFault
 lines_meaning_in_one [] = Err (at_line 1 (as_whole BadVersion))
 lines_meaning_in_one (version ∷ more) =
     if is_version_one version.words
@@ -43,7 +43,7 @@ lines_meaning_in_one (version ∷ more) =
     else Err (at_line version.number (version_flaw version.words))
 
 -- what a text means if version 1 is the only one
-abbrev pub meaning_in_one : List ℕ → Result Publications ScriptFault
+abbrev pub meaning_in_one : List ℕ → Result Publications LineFault
 meaning_in_one text =
     if nat_lt MAX_SCRIPT (length text) then Err (at_line 0 (as_whole TooLong))
     else lines_meaning_in_one (significant_lines text)
@@ -58,7 +58,7 @@ pub record IsVersionOne (text : List ℕ) : Type 0 where
 -- the report if version 1 is the only one: the trace has these rows, and the text reports their decisions, each in the
 -- file of 16 entries after the publications that the row asks for
 pub record IsReportInOne (batches : List (List Event)) (trace text : List ℕ) : Type 0 where
-  pub rows : List Row
+  pub rows : List TraceRow
   pub decisions : List Decision
   pub trace_means : trace_meaning (unnamed_moments (length batches)) trace ≡ Ok (map row_fields rows)
   pub decided : AllZip (λ row decision. IsDecision (file_after (profile_of Sixteen) (take row.after batches)) row.access decision)

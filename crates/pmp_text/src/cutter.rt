@@ -6,9 +6,9 @@ ghost use Rattle.std.specs.List.{list_any};
 ghost use Rattle.pmp_text.specs.Cutting.{IsCut, IsFilled, IsLineCut};
 ghost use Rattle.pmp_text.specs.Lines.{is_line_feed};
 ghost use Rattle.pmp_text.specs.Tables.{is_line_end};
-ghost use Rattle.pmp_text.specs.declared.refusal.Refusal.TheVariants.{Input, Memory};
+ghost use Rattle.pmp_text.specs.declared.input.InputFault.TheVariants.{Input, Memory};
 
-use crate::refusal::{InputFault, Refusal};
+use crate::input::InputFault;
 use std::alloc::Global;
 use std::io::Read;
 use std::mem;
@@ -41,7 +41,7 @@ pub fn cut_piece<R: Read>(
     if fill(reader, held, limit)? {
         return Ok(Cut::Last(mem::replace(held, Vec::new(alloc))));
     }
-    let end = last_line_end(held).ok_or(Refusal::TooLong)?;
+    let end = last_line_end(held).ok_or(InputFault::TooLong)?;
     let rest = Vec::from_slice(alloc, &held[end..])?;
     held.truncate(end + 1);
     Ok(Cut::Front(mem::replace(held, rest)))
@@ -63,7 +63,7 @@ pub fn cut_lines<R: Read>(
     if fill(reader, held, limit)? {
         return Ok(Cut::Last(mem::replace(held, Vec::new(alloc))));
     }
-    let end = line_feed_end(held).ok_or(Refusal::TooLong)?;
+    let end = line_feed_end(held).ok_or(InputFault::TooLong)?;
     let rest = Vec::from_slice(alloc, &held[end..])?;
     held.truncate(end);
     Ok(Cut::Front(mem::replace(held, rest)))

@@ -4,8 +4,8 @@ ghost use Rattle.std.specs.Prelude.{◌≡◌};
 ghost use Rattle.pmp_text.specs.Flaws.{at_line, at_row, part, as_whole};
 
 use crate::refusal::Refusal;
-use crate::script::ScriptFault;
-use crate::trace::TraceFault;
+use crate::script::LineFault;
+use crate::trace::RowFault;
 
 /// What is wrong with a line of a script or with a row, without its position.
 #[derive(Clone, Copy, Debug, PartialEq, Eq)]
@@ -39,10 +39,10 @@ impl Refusal {
 
 impl Flaw {
     /// Returns the fault of the line with this number; 0 is the text as a whole.
-    pub(crate) fn at_line(self, line: u64) -> ScriptFault
+    pub(crate) fn at_line(self, line: u64) -> LineFault
         ensures { result ≡ at_line line self }
     {
-        ScriptFault {
+        LineFault {
             kind: self.kind,
             line,
             word: self.part,
@@ -50,10 +50,10 @@ impl Flaw {
     }
 
     /// Returns the fault of the row with this number; 0 is the text as a whole.
-    pub fn at_row(self, row: u64) -> TraceFault
+    pub fn at_row(self, row: u64) -> RowFault
         ensures { result ≡ at_row row self }
     {
-        TraceFault {
+        RowFault {
             kind: self.kind,
             row,
             field: self.part,

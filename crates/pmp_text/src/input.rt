@@ -2,11 +2,13 @@
 
 ghost use Rattle.std.specs.Prelude.{◌≡◌, ◌<◌, ◌≤◌, length, take, IfErr, IfOk};
 ghost use Rattle.std.specs.Io.KnownBytes.{Consumes, IsAtEnd};
-ghost use Rattle.pmp_text.specs.Inputs.{CantReadPart, IsReadWhole};
+ghost use Rattle.pmp_text.specs.Inputs.{CantReadPart, IsReadWhole, refusal_of_input};
+ghost use Rattle.pmp_text.specs.declared.input.InputFault.TheVariants.{Input, Memory};
 
-use crate::refusal::{InputFault, Refusal};
+use crate::refusal::Refusal;
 use crate::script::MAX_HEADED_SCRIPT;
-use std::alloc::Global;
+use std::alloc::{AllocError, Global};
+use std::io;
 use std::io::Read;
 
 /// The greatest limit that `read_bytes` honors.
@@ -14,6 +16,45 @@ pub const MAX_LIMIT: u64 = MAX_HEADED_SCRIPT as u64;
 
 /// The greatest number of bytes that one read requests.
 const CHUNK: usize = 8 * 1024;
+
+/// Why an input gives no bytes. What was taken from a reader stays taken.
+#[derive(Clone, Copy, Debug, PartialEq, Eq)]
+pub enum InputFault {
+    /// There are more bytes than asked for: 17.
+    TooLong,
+    /// The input can't be opened or read: 41.
+    Input,
+    /// Out of memory: 40.
+    Memory,
+}
+
+impl From<InputFault> for Refusal {
+    ghost from_gives = { λ fault refusal. refusal ≡ refusal_of_input fault };
+
+    fn from(fault: InputFault) -> Refusal {
+        match fault {
+            InputFault::TooLong => Refusal::TooLong,
+            InputFault::Input => Refusal::Input,
+            InputFault::Memory => Refusal::Memory,
+        }
+    }
+}
+
+impl From<AllocError> for InputFault {
+    ghost from_gives = { λ _ fault. fault ≡ Memory };
+
+    fn from(_: AllocError) -> InputFault {
+        InputFault::Memory
+    }
+}
+
+impl From<io::Error> for InputFault {
+    ghost from_gives = { λ _ fault. fault ≡ Input };
+
+    fn from(_: io::Error) -> InputFault {
+        InputFault::Input
+    }
+}
 
 /// Returns all bytes that the reader has left, which are at most `limit`.
 ///
@@ -51,7 +92,7 @@ fn read_part<R: Read>(reader: &mut R, chunk: &mut [u8], room: u64) -> Result<usi
     let most = (chunk.len() as u64).min(room + 1) as usize;
     let count = reader.read(&mut chunk[..most])?;
     if count as u64 > room {
-        return Err(Refusal::TooLong);
+        return Err(InputFault::TooLong);
     }
     Ok(count)
 }

@@ -26,7 +26,7 @@ pub use cutter::{Cut, cut_lines, cut_piece};
 pub use event_log::{EventLog, FixedLog, GrowingLog};
 pub use expectation::Expectation;
 pub use flaw::Flaw;
-pub use input::{MAX_LIMIT, read_bytes};
+pub use input::{InputFault, MAX_LIMIT, read_bytes};
 pub use lines::{
     ADDRESS_DIGITS, Breach, Change, EventPlace, NoMemory, Only, Since, Verdict, append_line,
     reason_word, write_change, write_effect, write_entries, write_expected, write_picture,
@@ -40,10 +40,13 @@ pub use output::{OutputFault, write_out};
 pub use policy::{
     COMMENT, Demand, Kinds, Label, Modes, NAME, Policy, PolicyFields, PolicyRow, read_policy,
 };
-pub use refusal::{InputFault, Refusal, ScriptKind, TraceKind};
+pub use refusal::Refusal;
 pub use script::{
-    MAX_EVENTS, MAX_HEADED_SCRIPT, MAX_SCRIPT, Script, ScriptFault, Words, is_headed, read_rights,
-    read_script, split_first_line,
+    LineFault, MAX_EVENTS, MAX_HEADED_SCRIPT, MAX_SCRIPT, ReadScript, Script, ScriptFault, ScriptKind, Words,
+    is_headed, read_rights, read_script, read_script_in, split_first_line, unsized_fault,
 };
 pub use sink::Sink;
-pub use trace::{MAX_TRACE, Place, Records, Row, RowReader, TraceFault, read_trace};
+pub use trace::{
+    MAX_TRACE, Place, Records, Row, RowFault, RowReader, TraceFault, TraceKind, TraceRow, read_trace,
+    read_trace_by,
+};

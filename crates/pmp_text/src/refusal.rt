@@ -100,15 +100,6 @@ pub enum Refusal {
     NoRows = 71,
 }
 
-/// The reasons why a script is refused: 10 to 17, 40, and in version 3 50 to 57, 59 and 63.
-pub type ScriptKind = Refusal;
-
-/// The reasons why a trace or a policy is refused: 3, 4, 17, 20 to 23, 40 and 41.
-pub type TraceKind = Refusal;
-
-/// The reasons why an input gives no bytes: 17, 40 and 41. What was taken from a reader stays taken.
-pub type InputFault = Refusal;
-
 impl Refusal {
     pub fn number(self) -> u8
         ensures { result ≡ number_of self }

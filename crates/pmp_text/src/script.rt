@@ -4,7 +4,6 @@ ghost use Rattle.std.specs.Prelude.{◌≡◌, ◌<◌, ◌≤◌, [], length, t
 ghost use Rattle.pmp_core.specs.declared.event.TheConstants.{BATCH_EVENTS};
 ghost use Rattle.pmp_core.specs.Histories.{joined};
 ghost use Rattle.pmp_text.specs.Contents.{ScriptContents};
-ghost use Rattle.pmp_text.specs.Heads.{size_for};
 ghost use Rattle.pmp_text.specs.Moments.{moments_in};
 ghost use Rattle.pmp_text.specs.Steps.Cuts.{AreCut, AreEnds, cut_from, last_end};
 ghost use Rattle.pmp_text.specs.Outcomes.{out_of_memory};
@@ -18,6 +17,7 @@ mod reader;
 mod reading;
 mod shorthand;
 mod significant;
+mod sized;
 mod start;
 mod statement;
 mod version;
@@ -27,11 +27,12 @@ use crate::event_log::EventLog;
 use crate::expectation::Expectation;
 use crate::mark::Mark;
 use crate::moments::Moments;
-use crate::refusal::{Refusal, ScriptKind};
+use crate::refusal::Refusal;
 pub use lines::split_first_line;
-use pmp_core::{BATCH_EVENTS, ENTRIES, Event, RegFile, Size};
-pub use reader::{MAX_EVENTS, MAX_HEADED_SCRIPT, MAX_SCRIPT, is_headed, read_script};
+use pmp_core::{BATCH_EVENTS, Event, RegFile, Size};
+pub use reader::{MAX_EVENTS, MAX_HEADED_SCRIPT, MAX_SCRIPT, is_headed, read_script_in};
 pub use shorthand::read_rights;
+pub use sized::{Script, ScriptFault, ScriptKind, read_script, unsized_fault};
 pub(crate) use start::kept_value;
 use std::alloc::AllocError;
 use std::marker::Model;
@@ -39,18 +40,19 @@ pub use words::Words;
 
 /// What is wrong with a script, and where.
 #[derive(Clone, Copy, Debug, PartialEq, Eq)]
-pub struct ScriptFault {
-    pub kind: ScriptKind,
+pub struct LineFault {
+    /// 10 to 17, 40, and in version 3 50 to 57, 59 and 63.
+    pub kind: Refusal,
     /// The line, counted from 1, or 0 if the fault is of no line: `TooLong` and `Memory`.
     pub line: u64,
     /// The word of the line, counted from 0, or none if the whole line is at fault.
     pub word: Option<usize>,
 }
 
-impl From<AllocError> for ScriptFault {
+impl From<AllocError> for LineFault {
     ghost from_gives = { λ _ fault. fault ≡ out_of_memory };
 
-    fn from(_: AllocError) -> ScriptFault {
+    fn from(_: AllocError) -> LineFault {
         Refusal::Memory.whole().at_line(0)
     }
 }
@@ -58,7 +60,7 @@ impl From<AllocError> for ScriptFault {
 /// The initial state of a script's unit, and its publications in order, which a log keeps with what is expected. Each
 /// publication is a batch of at most [`BATCH_EVENTS`] events, perhaps empty.
 #[derive(Drop)]
-pub struct Script<'a> {
+pub struct ReadScript<'a> {
     size: Size,
     /// The register file before the first event.
     start: RegFile,
@@ -72,7 +74,7 @@ pub struct Script<'a> {
     marks: Option<&'a [Mark]>,
 }
 
-impl<'a> Model for Script<'a> {
+impl<'a> Model for ReadScript<'a> {
     ghost use Rattle.std.specs.Prelude.{length, option_map};
     ghost use Rattle.pmp_text.specs.Contents.{ScriptContents};
     ghost use Rattle.pmp_text.specs.Steps.Cuts.{AreCut, cut_from};
@@ -89,17 +91,6 @@ impl<'a> Model for Script<'a> {
     } };
 
     ghost invariant = { λ script. AreCut script.ends.now (length script.events.now) (length script.lines.now) };
-}
-
-/// Returns the size that has room for a register file's entries.
-fn shown_size(file: &RegFile) -> Size
-    ensures { result ≡ size_for file.now }
-{
-    if usize::from(file.hart().entries()) > ENTRIES {
-        Size::SixtyFour
-    } else {
-        Size::Sixteen
-    }
 }
 
 /// Returns how many events the given number of first publications have.
@@ -126,7 +117,7 @@ fn part_of<'a, T>(items: &'a [T], ends: &[usize], index: usize) -> &'a [T]
     &items[start..end]
 }
 
-impl<'a> Script<'a> {
+impl<'a> ReadScript<'a> {
     /// Returns the script that a log keeps, all of whose events are published; with expectations and names of moments
     /// if its version has them.
     pub(crate) fn new<L: EventLog>(
@@ -134,7 +125,7 @@ impl<'a> Script<'a> {
         start: RegFile,
         log: &'a L,
         is_headed: bool,
-    ) -> Script<'a>
+    ) -> ReadScript<'a>
         requires { let kept = L.kept log.now in AreCut kept.ends (length kept.events) (length kept.lines) }
         ensures { let kept = L.kept log.now in result ≡ record {
           size = size;
@@ -145,7 +136,7 @@ impl<'a> Script<'a> {
           marks = if is_headed then Some kept.marks else None;
         } }
     {
-        Script {
+        ReadScript {
             size,
             start,
             events: log.events(),

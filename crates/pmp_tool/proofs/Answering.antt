@@ -6,7 +6,7 @@ use Rattle.std.specs.List.{AllZip}
 use Rattle.std.specs.Prelude.{zip}
 use Rattle.std.specs.Result.{IsErrAnd}
 use Rattle.pmp_audit.specs.Answers.{IsRefused}
-use Rattle.pmp_audit.specs.declared.fault.AuditFault.{AuditFault}
+use Rattle.pmp_audit.specs.declared.fault.ReportFault.{ReportFault}
 use Rattle.pmp_audit.specs.declared.long_audit.TheConstants.{PIECE}
 use Rattle.pmp_audit.specs.LongAudit.{StopsLong}
 use Rattle.pmp_audit.specs.declared.policy_check.Breaches.{Breaches}
@@ -24,12 +24,12 @@ use Rattle.pmp_tool.specs.Inputs.{AreBytesOf, GivesBytesOf, Paths}
 use Rattle.pmp_tool.specs.Requests.{Declines, RequestFails, StopsInTrace}
 
 -- a call's refusal is its failure
-pub declined : {A : Type 0} {Says : A → List ℕ → Type 0} {Refuses : AuditFault → Type 0}
-    {before after : Option (List ℕ)} (fault : AuditFault) → IsRefused Says before after Refuses fault
+pub declined : {A : Type 0} {Says : A → List ℕ → Type 0} {Refuses : ReportFault → Type 0}
+    {before after : Option (List ℕ)} (fault : ReportFault) → IsRefused Says before after Refuses fault
     → Declines before after Says Refuses (unaudited fault)
 declined fault refused = record { fault = fault; is = refl; refused = refused }
 
-pub stopped : {script trace : List ℕ} {first : ℕ} {before after : Option (List ℕ)} (fault : AuditFault)
+pub stopped : {script trace : List ℕ} {first : ℕ} {before after : Option (List ℕ)} (fault : ReportFault)
     → StopsLong PIECE script first trace before after fault → StopsInTrace before after script first trace
     (unaudited fault)
 stopped fault stops = record { fault = fault; is = refl; stops = stops }

@@ -11,8 +11,8 @@ use Rattle.pmp_text.specs.declared.moments.When.{When}
 use Rattle.pmp_text.specs.declared.refusal.Refusal.{Refusal}
 use Rattle.pmp_audit.specs.Answers.{IsRefused}
 use Rattle.pmp_audit.specs.declared.fault.Side.{Side}
-use Rattle.pmp_audit.specs.declared.fault.AuditFault.{AuditFault}
-use Rattle.pmp_audit.specs.declared.fault.AuditFault.TheVariants as audit
+use Rattle.pmp_audit.specs.declared.fault.ReportFault.{ReportFault}
+use Rattle.pmp_audit.specs.declared.fault.ReportFault.TheVariants as audit
 use Rattle.pmp_tool.specs.declared.argument.Argument.{Argument}
 use Rattle.pmp_tool.specs.declared.command.Command.{Command}
 use Rattle.pmp_tool.specs.declared.failure.Failure.{Failure}
@@ -98,13 +98,13 @@ module _ (words : List Text) (error : Error) where
 
 -- a refusal with status 2 wrote nothing
 refused_keeps : {A : Type 0} (Says : A → List ℕ → Type 0) (before after : Option (List ℕ))
-    (Refuses : AuditFault → Type 0) (fault : AuditFault) → IsRefused Says before after Refuses fault
+    (Refuses : ReportFault → Type 0) (fault : ReportFault) → IsRefused Says before after Refuses fault
     → failure_status (unaudited fault) ≡ 2 → Keeps before after
 refused_keeps Says before after Refuses audit.Memory refused two = absurd cc
 refused_keeps Says before after Refuses audit.Output refused two = absurd cc
 refused_keeps Says before after Refuses fault refused two = refused.1
 
-declines_keep : {A : Type 0} {Says : A → List ℕ → Type 0} {Refuses : AuditFault → Type 0}
+declines_keep : {A : Type 0} {Says : A → List ℕ → Type 0} {Refuses : ReportFault → Type 0}
     {before after : Option (List ℕ)} {failure : Failure} → Declines before after Says Refuses failure
     → failure_status failure ≡ 2 → Keeps before after
 declines_keep {Says = Says} {Refuses = Refuses} {before = before} {after = after} declines two =

@@ -12,9 +12,9 @@ use Rattle.pmp_text.specs.declared.refusal.Refusal.TheVariants.{Memory, Output}
 use Rattle.pmp_names.specs.declared.address_names.NamesFault.{NamesFault}
 use Rattle.pmp_names.specs.declared.hart_name.TheConstants.{HART_NAME}
 use Rattle.pmp_audit.specs.Fault.{refusal_of}
-use Rattle.pmp_audit.specs.declared.fault.AuditFault.{AuditFault}
+use Rattle.pmp_audit.specs.declared.fault.ReportFault.{ReportFault}
 use Rattle.pmp_audit.specs.declared.fault.Side.{Side}
-use Rattle.pmp_audit.specs.declared.fault.AuditFault.TheVariants as audit
+use Rattle.pmp_audit.specs.declared.fault.ReportFault.TheVariants as audit
 use Rattle.pmp_import.specs.declared.fault.ImportFault.{ImportFault}
 use Rattle.pmp_plan.specs.declared.answer.AnswerFault.{AnswerFault}
 use Rattle.pmp_plan.specs.declared.answer.AnswerFault.TheVariants as answer
@@ -69,7 +69,7 @@ abbrev pub unparsed : Error → Failure
 unparsed error = unparsed_as (kind_of error) error
 
 -- an answer's fault, with its place
-abbrev pub unaudited : AuditFault → Failure
+abbrev pub unaudited : ReportFault → Failure
 unaudited fault = refused_at (refusal_of fault) (place_of fault)
 
 -- a log's fault, with its place

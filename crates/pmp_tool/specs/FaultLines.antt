@@ -3,8 +3,8 @@ use Rattle.std.specs.Prelude.{ℕ, List, [], ◌++◌, codes, decimal, Option, S
 use Rattle.pmp_text.specs.Refusals.{refusal_text}
 use Rattle.pmp_text.specs.declared.refusal.Refusal.{Refusal}
 use Rattle.pmp_text.specs.declared.refusal.Refusal.TheVariants.{BadPair, PastEnd, TooFine}
-use Rattle.pmp_audit.specs.declared.fault.AuditFault.{AuditFault}
-use Rattle.pmp_audit.specs.declared.fault.AuditFault.TheVariants as audit
+use Rattle.pmp_audit.specs.declared.fault.ReportFault.{ReportFault}
+use Rattle.pmp_audit.specs.declared.fault.ReportFault.TheVariants as audit
 use Rattle.pmp_audit.specs.declared.fault.Side.{Side}
 use Rattle.pmp_audit.specs.declared.fault.Side.TheVariants.{Old, New}
 use Rattle.pmp_import.specs.declared.fault.ImportFault.{ImportFault}
@@ -18,7 +18,7 @@ use Rattle.pmp_tool.specs.declared.fault_line.Place.TheVariants.{Script, LineOf,
 use Rattle.pmp_tool.specs.declared.fault_line.Place.TheVariants.{PlanEntries}
 
 -- the place of an answer's fault; line 0 and row 0 mean none
-abbrev pub place_of : AuditFault → Place
+abbrev pub place_of : ReportFault → Place
 place_of (audit.Script fault) = if fault.line == 0 then Nowhere else ScriptLine fault
 place_of (audit.Trace fault) = if fault.row == 0 then Nowhere else TraceRow fault
 place_of (audit.Policy fault) = if fault.row == 0 then Nowhere else PolicyRow fault

@@ -22,7 +22,7 @@ use Rattle.pmp_text.specs.declared.trace.reader.TheConstants.{MAX_TRACE}
 use Rattle.pmp_plan.specs.declared.answer.AnswerFault.{AnswerFault}
 use Rattle.pmp_plan.specs.PlanAnswers.{PlanFails, Tells}
 use Rattle.pmp_plan.specs.PlansOf.{IsPlanOfScript, Leaves, LeavesNone, PlanOfFails}
-use Rattle.pmp_audit.specs.declared.fault.AuditFault.{AuditFault}
+use Rattle.pmp_audit.specs.declared.fault.ReportFault.{ReportFault}
 use Rattle.pmp_audit.specs.declared.policy_check.PolicySummary.{PolicySummary}
 use Rattle.pmp_audit.specs.AccessCheck.{CheckSays}
 use Rattle.pmp_audit.specs.Answers.{IsRefused}
@@ -163,7 +163,7 @@ RequestSays paths script PolicyFrom Listed text = DraftSays script tt text
 RequestSays _ _ _ _ _ = ⊥
 
 -- which faults an audit is refused for; several checkers may also lack a place
-abbrev pub AuditByRefuses : (checkers : Option ℕ) (script trace : List ℕ) → AuditFault → Type 0
+abbrev pub AuditByRefuses : (checkers : Option ℕ) (script trace : List ℕ) → ReportFault → Type 0
 AuditByRefuses None script trace fault = AuditRefuses script trace fault
 AuditByRefuses (Some count) script trace fault = SharedAuditRefuses script trace fault
 
@@ -186,9 +186,9 @@ pub record IsUnplanned (Fails : AnswerFault → Type 0) (failure : Failure) : Ty
 
 module _ (before after : Option (List ℕ)) where
   -- a call refuses its inputs before a byte is written, or memory or the output failed
-  pub record Declines {A : Type 0} (Says : A → List ℕ → Type 0) (Refuses : AuditFault → Type 0)
+  pub record Declines {A : Type 0} (Says : A → List ℕ → Type 0) (Refuses : ReportFault → Type 0)
       (failure : Failure) : Type 0 where
-    pub fault : AuditFault
+    pub fault : ReportFault
     pub is : failure ≡ unaudited fault
     pub refused : IsRefused Says before after Refuses fault
 
@@ -235,7 +235,7 @@ module _ (before after : Option (List ℕ)) where
 
   -- a long audit stops, perhaps after whole rows
   pub record StopsInTrace (script : List ℕ) (first : ℕ) (trace : List ℕ) (failure : Failure) : Type 0 where
-    pub fault : AuditFault
+    pub fault : ReportFault
     pub is : failure ≡ unaudited fault
     pub stops : StopsLong PIECE script first trace before after fault
 

@@ -22,7 +22,7 @@ use crate::outcome::Outcome;
 use crate::plan_answers::answer_plan;
 use crate::request::{Audit, Diff, Import, LongAudit, Policy, Request};
 use pmp_audit::{
-    OpenGate, PIECE, Side, audit, audit_long, audit_shared, check, check_policy, diff, explain,
+    OpenGate, PIECE, Side, audit_by_workers, audit_long, audit_whole, check_after, check_policy, diff, explain,
     lint, policy_from, show, writes,
 };
 use pmp_import::{Given, import, survey_log};
@@ -71,7 +71,7 @@ fn answer_request<R: Threads + Wait + Sync, I: Inputs, O: Write>(
     match request {
         Request::Check(asked) => {
             allow_name(script, Argument::After, asked.after)?;
-            let decision = check(alloc, script, &asked.access, asked.after, out)?;
+            let decision = check_after(alloc, script, &asked.access, asked.after, out)?;
             Ok(Outcome::Decided(decision, asked))
         }
         Request::Why(asked) => {
@@ -147,8 +147,8 @@ fn answer_audit<R: Threads + Wait + Sync, I: Inputs, O: Write>(
 {
     let trace = read_trace(alloc, naming, inputs, asked.trace)?;
     let summary = match asked.checkers {
-        Some(k) => audit_shared(rt, alloc, &OpenGate, k as u8, script, &trace, out)?,
-        None => audit(alloc, script, &trace, out)?,
+        Some(k) => audit_by_workers(rt, alloc, &OpenGate, k as u8, script, &trace, out)?,
+        None => audit_whole(alloc, script, &trace, out)?,
     };
     Ok(Outcome::Audited(summary))
 }
@@ -311,5 +311,5 @@ pub fn script_at<I: Inputs>(
 {
     inputs
         .script(path)
-        .map_err(|fault| Failure::unread(fault, side))
+        .map_err(|fault| Failure::unread(Refusal::from(fault), side))
 }

@@ -22,7 +22,7 @@ use fields::{
 };
 use names::write_names;
 use pmp_audit::Side;
-use pmp_text::{GrowingLog, Refusal, read_script, write_out};
+use pmp_text::{GrowingLog, Refusal, read_script_in, write_out};
 use shown::show_text;
 use spot::Spot;
 use std::alloc::{AllocError, Global};
@@ -263,6 +263,6 @@ fn write_count(alloc: Global, text: &mut String, input: &KeptInput) -> Result<()
 /// Returns how many publications a script has, if it can be read.
 fn publications_of(alloc: Global, script: &[u8]) -> Option<u64> {
     let mut log = GrowingLog::new(alloc);
-    let script = read_script(&mut log, script).ok()?;
+    let script = read_script_in(&mut log, script).ok()?;
     Some(script.batches())
 }

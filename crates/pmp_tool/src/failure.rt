@@ -2,6 +2,7 @@
 
 ghost use Rattle.std.specs.Prelude.{◌≡◌, ◌≤◌, IfSome, OnOk};
 ghost use Rattle.std.specs.Io.KnownBytes.{Appends};
+ghost use Rattle.pmp_text.specs.Inputs.{refusal_of_input};
 ghost use Rattle.pmp_text.specs.declared.refusal.Refusal.TheVariants.{Memory, Output};
 ghost use Rattle.pmp_tool.specs.Failures.{Tells, failure_status, failure_text, in_memory, of_hart, refused, unaudited, unimported, unnamed, unparsed, unplanned, unread};
 ghost use Rattle.pmp_tool.specs.declared.failure.Failure.TheVariants.{Refused};
@@ -9,7 +10,7 @@ ghost use Rattle.pmp_tool.specs.declared.failure.Failure.TheVariants.{Refused};
 use crate::fault_line::{FaultLine, Place};
 use arrayvec::ArrayString;
 use clap::error::ErrorKind;
-use pmp_audit::{AuditFault, Side};
+use pmp_audit::{ReportFault, Side};
 use pmp_import::ImportFault;
 use pmp_names::{HART_NAME, NamesFault};
 use pmp_plan::AnswerFault;
@@ -86,7 +87,7 @@ impl Failure {
     }
 
     /// Returns the failure of an unreadable input: of two scripts, the one on this side.
-    pub fn unread(refusal: InputFault, side: Option<Side>) -> Failure
+    pub fn unread(refusal: Refusal, side: Option<Side>) -> Failure
         ensures { result ≡ unread refusal side }
     {
         Failure::at(refusal, side.map_or(Place::Nowhere, Place::Script))
@@ -116,6 +117,14 @@ impl From<Refusal> for Failure {
 
     fn from(refusal: Refusal) -> Failure {
         Failure::Refused(FaultLine::from(refusal))
+    }
+}
+
+impl From<InputFault> for Failure {
+    ghost from_gives = { λ fault failure. failure ≡ refused (refusal_of_input fault) };
+
+    fn from(fault: InputFault) -> Failure {
+        Failure::from(Refusal::from(fault))
     }
 }
 
@@ -157,7 +166,7 @@ impl From<AnswerFault> for Failure {
     fn from(fault: AnswerFault) -> Failure {
         match fault {
             AnswerFault::Text(fault) => Failure::at(fault.kind, Place::PlanRow(fault)),
-            AnswerFault::Script(fault) => Failure::from(AuditFault::Script(fault)),
+            AnswerFault::Script(fault) => Failure::from(ReportFault::Script(fault)),
             AnswerFault::Plan(fault) => Failure::at(fault.refusal(), Place::of_plan(fault)),
             AnswerFault::Output => Failure::from(Refusal::Output),
         }
@@ -172,10 +181,10 @@ impl From<NamesFault> for Failure {
     }
 }
 
-impl From<AuditFault> for Failure {
+impl From<ReportFault> for Failure {
     ghost from_gives = { λ fault failure. failure ≡ unaudited fault };
 
-    fn from(fault: AuditFault) -> Failure {
+    fn from(fault: ReportFault) -> Failure {
         Failure::at(fault.refusal(), Place::of(fault))
     }
 }

@@ -12,12 +12,12 @@ ghost use Rattle.pmp_tool.specs.declared.fault_line.Place.TheVariants.{Nowhere};
 
 use crate::argument::Argument;
 use arrayvec::ArrayString;
-use pmp_audit::{AuditFault, Side};
+use pmp_audit::{ReportFault, Side};
 use pmp_core::AccessFault;
 use pmp_import::ImportFault;
 use pmp_names::{HART_NAME, NamesFault};
 use pmp_plan::PlanFault;
-use pmp_text::{OutputFault, Refusal, ScriptFault, TraceFault, write_out};
+use pmp_text::{OutputFault, Refusal, LineFault, RowFault, write_out};
 use std::fmt;
 use std::fmt::Write as TextWrite;
 use std::io::Write;
@@ -30,21 +30,21 @@ pub enum Place {
     /// In a word of the command line, which the line doesn't show.
     Word(Argument),
     /// In a line of the script, from 1.
-    ScriptLine(ScriptFault),
+    ScriptLine(LineFault),
     /// In a row of the trace, from 1.
-    TraceRow(TraceFault),
+    TraceRow(RowFault),
     /// In a row of the policy, from 1.
-    PolicyRow(TraceFault),
+    PolicyRow(RowFault),
     /// In one of two scripts.
     Script(Side),
     /// In a line of one of two scripts, from 1.
-    LineOf(Side, ScriptFault),
+    LineOf(Side, LineFault),
     /// In a line of the log, from 1.
     LogLine(ImportFault),
     /// In a row of the names, from 1.
     NamesRow(NamesFault),
     /// In a row of the plan, from 1, or in no row of it.
-    PlanRow(TraceFault),
+    PlanRow(RowFault),
     /// In two rows of the plan, from 1.
     PlanRows(u64, u64),
     /// In the row of the plan that takes the most entries of those that were found.
@@ -53,17 +53,17 @@ pub enum Place {
 
 impl Place {
     /// Returns the place of this fault of an answer.
-    pub fn of(fault: AuditFault) -> Place
+    pub fn of(fault: ReportFault) -> Place
         ensures { result ≡ place_of fault }
     {
         match fault {
-            AuditFault::Script(fault) if fault.line > 0 => Place::ScriptLine(fault),
-            AuditFault::Trace(fault) if fault.row > 0 => Place::TraceRow(fault),
-            AuditFault::Policy(fault) if fault.row > 0 => Place::PolicyRow(fault),
-            AuditFault::ScriptOf(side, fault) if fault.line > 0 => Place::LineOf(side, fault),
-            AuditFault::ScriptOf(side, _)
-            | AuditFault::BadAfterOf(side)
-            | AuditFault::NoMomentOf(side) => Place::Script(side),
+            ReportFault::Script(fault) if fault.line > 0 => Place::ScriptLine(fault),
+            ReportFault::Trace(fault) if fault.row > 0 => Place::TraceRow(fault),
+            ReportFault::Policy(fault) if fault.row > 0 => Place::PolicyRow(fault),
+            ReportFault::ScriptOf(side, fault) if fault.line > 0 => Place::LineOf(side, fault),
+            ReportFault::ScriptOf(side, _)
+            | ReportFault::BadAfterOf(side)
+            | ReportFault::NoMomentOf(side) => Place::Script(side),
             _ => Place::Nowhere,
         }
     }
@@ -97,12 +97,12 @@ impl Place {
         let kind = fault.refusal();
         match fault {
             PlanFault::Overlap { row, other } => Place::PlanRows(number(row), number(other)),
-            PlanFault::TooFine { row, field } => Place::PlanRow(TraceFault {
+            PlanFault::TooFine { row, field } => Place::PlanRow(RowFault {
                 kind,
                 row: number(row),
                 field: Some(field),
             }),
-            PlanFault::PastEnd { row } | PlanFault::BadPair { row } => Place::PlanRow(TraceFault {
+            PlanFault::PastEnd { row } | PlanFault::BadPair { row } => Place::PlanRow(RowFault {
                 kind,
                 row: number(row),
                 field: None,

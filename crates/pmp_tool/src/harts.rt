@@ -84,7 +84,7 @@ fn listed<I: Inputs>(
 {
     inputs
         .folder(path)
-        .map_err(|fault| Failure::unread(fault, side))
+        .map_err(|fault| Failure::unread(Refusal::from(fault), side))
 }
 
 /// Returns the harts of a folder with these files.

@@ -1,6 +1,7 @@
 //! The sources of the program's inputs.
 
 ghost use Rattle.std.specs.Prelude.{◌≡◌, ℕ, ◌≤◌, List, length, map, string_bytes, option_map, Option, None, IfOk, IfErr, OnOk};
+ghost use Rattle.pmp_text.specs.Inputs.{refusal_of_input};
 ghost use Rattle.pmp_text.specs.declared.input.TheConstants.{MAX_LIMIT};
 ghost use Rattle.pmp_text.specs.declared.script.reader.TheConstants.{MAX_HEADED_SCRIPT};
 ghost use Rattle.pmp_text.specs.declared.trace.reader.TheConstants.{MAX_TRACE};
@@ -30,27 +31,29 @@ pub trait Inputs {
     /// Returns the bytes of the script at this path.
     fn script(&mut self, path: &str) -> Result<Vec<u8>, InputFault>
         ensures read { IfOk result (λ bytes. AreBytesOf ((paths self.old).scripts path.now) bytes.items) }
-        ensures unread { IfErr result (CantBeRead MAX_HEADED_SCRIPT ((paths self.old).scripts path.now)) }
+        ensures unread { IfErr result (λ fault. CantBeRead MAX_HEADED_SCRIPT ((paths self.old).scripts path.now)
+            (refusal_of_input fault)) }
         ensures paths { paths self.new ≡ paths self.old };
 
     /// Returns the bytes of the trace or the policy at this path.
     fn trace(&mut self, path: &str) -> Result<Vec<u8>, InputFault>
         ensures read { IfOk result (λ bytes. AreBytesOf ((paths self.old).traces path.now) bytes.items) }
-        ensures unread { IfErr result (CantBeRead MAX_TRACE ((paths self.old).traces path.now)) }
+        ensures unread { IfErr result (λ fault. CantBeRead MAX_TRACE ((paths self.old).traces path.now)
+            (refusal_of_input fault)) }
         ensures paths { paths self.new ≡ paths self.old };
 
     /// Returns a reader of the trace or the log at this path, of which no byte is read yet.
     fn open_trace(&mut self, path: &str) -> Result<Self::Trace, InputFault>
         ensures opened { IfOk result (λ reader. GivesBytesOf ((paths self.old).traces path.now)
             (Self.Trace.remaining reader)) }
-        ensures unopened { IfErr result CantBeOpened }
+        ensures unopened { IfErr result (λ fault. CantBeOpened (refusal_of_input fault)) }
         ensures paths { paths self.new ≡ paths self.old };
 
     /// Returns the names of the files of the folder at this path, or none if there is no folder.
     fn folder(&mut self, path: &str) -> Result<Option<Vec<String>>, InputFault>
         ensures listed { IfOk result (λ found. IsFolder ((paths self.old).folders path.now) (option_map
             (λ files. map string_bytes files.items) found)) }
-        ensures unlisted { IfErr result CantBeOpened }
+        ensures unlisted { IfErr result (λ fault. CantBeOpened (refusal_of_input fault)) }
         ensures paths { paths self.new ≡ paths self.old };
 
     /// Creates a folder at this path, with these scripts. If that can't be done completely there is no folder.
@@ -134,23 +137,23 @@ impl<'a, R: Files + Input + AllocGlobal + Clock + Clone + Drop, E: Write + Drop>
 
 /// Returns why a folder can't be read.
 fn folder_fault(error: io::Error) -> InputFault
-    ensures { CantBeOpened result }
+    ensures { CantBeOpened (refusal_of_input result) }
 {
     match error.kind() {
-        ErrorKind::OutOfMemory => Refusal::Memory,
-        _ => Refusal::Input,
+        ErrorKind::OutOfMemory => InputFault::Memory,
+        _ => InputFault::Input,
     }
 }
 
 fn is_folder<R: Files>(runtime: &R, path: &str) -> Result<bool, InputFault>
-    ensures { IfErr result CantBeOpened }
+    ensures { IfErr result (λ fault. CantBeOpened (refusal_of_input fault)) }
 {
     if path == "stdin" {
         return Ok(false);
     }
     match fs::metadata(runtime, path) {
         Ok(found) => Ok(found.is_dir()),
-        Err(error) if error.kind() == ErrorKind::OutOfMemory => Err(Refusal::Memory),
+        Err(error) if error.kind() == ErrorKind::OutOfMemory => Err(InputFault::Memory),
         Err(_) => Ok(false),
     }
 }
@@ -160,7 +163,7 @@ fn files_of<R: Files + AllocGlobal + Clone + Drop>(
     runtime: &R,
     path: &str,
 ) -> Result<Vec<String>, InputFault>
-    ensures { IfErr result CantBeOpened }
+    ensures { IfErr result (λ fault. CantBeOpened (refusal_of_input fault)) }
 {
     let mut files = Vec::new(runtime.alloc());
     let listing = match fs::read_dir(runtime, path) {
@@ -188,7 +191,7 @@ fn read_at<R: Files + Input + AllocGlobal>(
 ) -> Result<Vec<u8>, InputFault>
     requires { limit ≤ MAX_LIMIT }
     ensures read { IfOk result (λ bytes. length bytes.items ≤ limit) }
-    ensures unread { IfErr result (CantBeRead limit None) }
+    ensures unread { IfErr result (λ fault. CantBeRead limit None (refusal_of_input fault)) }
 {
     match path {
         "stdin" => read_bytes(runtime.alloc(), &mut runtime.reader(), limit),

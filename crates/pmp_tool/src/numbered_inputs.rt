@@ -8,7 +8,7 @@ ghost use Rattle.pmp_tool.specs.NumberedInputs.{paths_for};
 use crate::inputs::Inputs;
 use crate::naming::Naming;
 use pmp_names::number_text;
-use pmp_text::{InputFault, MAX_TRACE, Refusal};
+use pmp_text::{MAX_TRACE, Refusal};
 use std::alloc::Global;
 
 /// Returns the bytes of the trace or the policy at this path, with numbers instead of names.
@@ -17,7 +17,7 @@ pub fn read_trace<I: Inputs>(
     naming: Option<Naming<'_>>,
     inputs: &mut I,
     path: &str,
-) -> Result<Vec<u8>, InputFault>
+) -> Result<Vec<u8>, Refusal>
     ensures read { IfOk result (λ bytes. AreBytesOf ((paths_for naming.entry (I.paths inputs.old)).traces path.now)
         bytes.items) }
     ensures unread { IfErr result (CantBeRead MAX_TRACE ((paths_for naming.entry (I.paths inputs.old)).traces
@@ -37,7 +37,7 @@ pub fn open_trace<I: Inputs>(
     naming: Option<Naming<'_>>,
     inputs: &mut I,
     path: &str,
-) -> Result<I::Trace, InputFault>
+) -> Result<I::Trace, Refusal>
     ensures opened { IfOk result (λ reader. GivesBytesOf ((paths_for naming.entry (I.paths inputs.old)).traces
         path.now) (I.Trace.remaining reader)) }
     ensures unopened { IfErr result CantBeOpened }
@@ -45,6 +45,6 @@ pub fn open_trace<I: Inputs>(
 {
     match naming {
         Some(_) => Err(Refusal::Input),
-        None => inputs.open_trace(path),
+        None => Ok(inputs.open_trace(path)?),
     }
 }

@@ -7,7 +7,7 @@ ghost use Rattle.pmp_tool.specs.CommandAnswers.{outcome_status};
 
 use crate::note::Note;
 use crate::request::Check;
-use pmp_audit::{PolicySummary, Summary, WriteSummary};
+use pmp_audit::{PolicySummary, AuditSummary, WriteSummary};
 use pmp_core::Decision;
 
 /// The exit status if texts and lists are written, an answer is the expected one, all accesses are allowed, a policy
@@ -25,7 +25,7 @@ pub enum Outcome {
     Decided(Decision, Check),
     /// The reason for a decision on an access was written; whether the word START has 14 digits and no `0x`.
     Explained(Decision, bool),
-    Audited(Summary),
+    Audited(AuditSummary),
     /// How many rows of a policy there are, and how many are broken.
     Judged(PolicySummary),
     /// A view of a register file was written.

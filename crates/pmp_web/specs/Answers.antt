@@ -9,8 +9,8 @@ use Rattle.pmp_text.specs.Refusals.{number_of}
 use Rattle.pmp_text.specs.declared.refusal.Refusal.{Refusal}
 use Rattle.pmp_text.specs.declared.refusal.Refusal.TheVariants.{BadWord}
 use Rattle.pmp_audit.specs.Fault.{refusal_of}
-use Rattle.pmp_audit.specs.declared.fault.AuditFault.{AuditFault}
-use Rattle.pmp_audit.specs.declared.fault.AuditFault.TheVariants.{BadAfterOf, NoMomentOf, Script, ScriptOf}
+use Rattle.pmp_audit.specs.declared.fault.ReportFault.{ReportFault}
+use Rattle.pmp_audit.specs.declared.fault.ReportFault.TheVariants.{BadAfterOf, NoMomentOf, Script, ScriptOf}
 use Rattle.pmp_audit.specs.declared.fault.Side.TheVariants.{New}
 use Rattle.pmp_audit.specs.declared.write_list.WriteSummary.{WriteSummary}
 use Rattle.pmp_audit.specs.Answers.{Declines}
@@ -34,24 +34,24 @@ use Rattle.pmp_web.specs.Request.{NamesNone}
 use Rattle.pmp_web.specs.Rooms.{text_in}
 
 -- which of two scripts is at fault
-abbrev pub side_number : AuditFault → ℕ
+abbrev pub side_number : ReportFault → ℕ
 side_number (ScriptOf New fault) = 256
 side_number (BadAfterOf New) = 256
 side_number (NoMomentOf New) = 256
 side_number _ = 0
 
 -- the number of a refusal, plus 256 if it is the new script's
-abbrev pub told_number : AuditFault → ℕ
+abbrev pub told_number : ReportFault → ℕ
 told_number fault = side_number fault + number_of (refusal_of fault)
 
-abbrev pub line_of : AuditFault → ℕ
+abbrev pub line_of : ReportFault → ℕ
 line_of (Script fault) = fault.line
 line_of (ScriptOf side fault) = fault.line
 line_of _ = 0
 
 -- the call refuses, with the number of the refusal and its line, and the room is empty
-pub record IsRefusal (Refuses : AuditFault → Type 0) (status : ℕ) (answer : Answer) : Type 0 where
-  pub fault : AuditFault
+pub record IsRefusal (Refuses : ReportFault → Type 0) (status : ℕ) (answer : Answer) : Type 0 where
+  pub fault : ReportFault
   pub why : Declines Refuses fault
   pub number : status ≡ told_number fault
   pub line : answer.line ≡ line_of fault
@@ -64,7 +64,7 @@ pub record IsUnasked (refusal : Refusal) (status : ℕ) (answer : Answer) : Type
   pub empty : text_in answer ≡ []
 
 -- the room holds a text that satisfies Says, and no line is at fault, or the call refuses
-abbrev pub Answers : (Says : List ℕ → Type 0) → (Refuses : AuditFault → Type 0) → (status : ℕ) → Answer → Type 0
+abbrev pub Answers : (Says : List ℕ → Type 0) → (Refuses : ReportFault → Type 0) → (status : ℕ) → Answer → Type 0
 Answers Says Refuses status answer =
     ((status ≡ 0) × (answer.line ≡ 0) × Says (text_in answer)) ⊎ IsRefusal Refuses status answer
 

@@ -6,7 +6,7 @@ use Rattle.pmp_text.specs.Refusals.{number_of}
 use Rattle.pmp_text.specs.declared.moments.When.TheVariants.{Number}
 use Rattle.pmp_text.specs.declared.refusal.Refusal.{Refusal}
 use Rattle.pmp_text.specs.declared.refusal.Refusal.TheVariants.{BadWord, Output}
-use Rattle.pmp_text.specs.declared.trace.TraceFault.{TraceFault}
+use Rattle.pmp_text.specs.declared.trace.RowFault.{RowFault}
 use Rattle.pmp_audit.specs.AskedFile.{FileRefuses}
 use Rattle.pmp_audit.specs.ScriptDiff.{GivesFile}
 use Rattle.pmp_names.specs.AddressNames.{next_row}
@@ -85,7 +85,7 @@ PlanScriptSays file security plan text = Tells (reset_file file.profile) (plain 
 -- the plan's text is at fault, or its rows have no room
 abbrev pub HasNoVerdicts : (plan : List ℕ) → AnswerFault → Type 0
 HasNoVerdicts plan why =
-    (fault : TraceFault) × (why ≡ answer.Text fault) × ((fault ≡ no_memory_for_rows) ⊎ (plan_said plan ≡ Err fault))
+    (fault : RowFault) × (why ≡ answer.Text fault) × ((fault ≡ no_memory_for_rows) ⊎ (plan_said plan ≡ Err fault))
 
 -- the rows of the plan are judged in the file after so many publications
 abbrev pub AnswersMeets : (script plan : List ℕ) → (after status : ℕ) → Answer → Type 0

@@ -9,9 +9,9 @@ ghost use Rattle.pmp_web.specs.Rooms.{text_in};
 
 use crate::rooms::Answer;
 use itoa::Buffer;
-use pmp_audit::{AuditFault, Side};
+use pmp_audit::{ReportFault, Side};
 use pmp_import::{ImportFault, Options};
-use pmp_text::{FixedLog, Refusal, Sink, read_script};
+use pmp_text::{FixedLog, Refusal, Sink, read_script_in};
 
 /// The greatest number of events in a script.
 const EVENTS: usize = 1 << 14;
@@ -62,7 +62,7 @@ macro_rules! tell {
 pub(crate) use tell;
 
 /// Returns the status of a refusal, which leaves no text in the room.
-pub fn refuse(answer: &mut Answer, fault: &AuditFault) -> u32
+pub fn refuse(answer: &mut Answer, fault: &ReportFault) -> u32
     ensures number { result ≡ told_number fault.now }
     ensures line { answer.new.line ≡ line_of fault.now }
     ensures empty { text_in answer.new ≡ [] }
@@ -84,24 +84,24 @@ pub fn refuse_log(answer: &mut Answer, fault: ImportFault) -> u32
 }
 
 /// Returns the number of a refusal.
-fn told_number(fault: &AuditFault) -> u32
+fn told_number(fault: &ReportFault) -> u32
     ensures { result ≡ told_number fault.now }
 {
     let number = u32::from(fault.refusal().number());
     match fault {
-        AuditFault::ScriptOf(Side::New, _)
-        | AuditFault::BadAfterOf(Side::New)
-        | AuditFault::NoMomentOf(Side::New) => OF_NEW + number,
+        ReportFault::ScriptOf(Side::New, _)
+        | ReportFault::BadAfterOf(Side::New)
+        | ReportFault::NoMomentOf(Side::New) => OF_NEW + number,
         _ => number,
     }
 }
 
 /// Returns the line of a refusal, or 0.
-fn line_of(fault: &AuditFault) -> u64
+fn line_of(fault: &ReportFault) -> u64
     ensures { result ≡ line_of fault.now }
 {
     match fault {
-        AuditFault::Script(fault) | AuditFault::ScriptOf(_, fault) => fault.line,
+        ReportFault::Script(fault) | ReportFault::ScriptOf(_, fault) => fault.line,
         _ => 0,
     }
 }
@@ -115,12 +115,12 @@ pub fn refuse_question(answer: &mut Answer, refusal: Refusal) -> u32
 }
 
 /// Appends how many publications the script has.
-pub fn append_count<S: Sink>(script: &[u8], out: &mut S) -> Result<(), AuditFault>
+pub fn append_count<S: Sink>(script: &[u8], out: &mut S) -> Result<(), ReportFault>
     ensures ok { IfOk result (IsAppended (λ _. CountSays script.now) (S.text out.old) (S.text out.new)) }
     ensures err { IfErr result (Declines (WritesRefuse script.now)) }
 {
     let mut log = Log::new();
-    let script = read_script(&mut log, script)?;
+    let script = read_script_in(&mut log, script)?;
     out.append(Buffer::new().format(script.batches()).as_bytes())?;
     Ok(())
 }

@@ -15,12 +15,12 @@ ghost use Rattle.pmp_plan.specs.Verdicts.{VerdictsSay};
 use crate::answering::{ANSWERED, Log};
 use crate::rooms::Answer;
 use arrayvec::ArrayVec;
-use pmp_audit::AuditFault;
+use pmp_audit::ReportFault;
 use pmp_core::RegFile;
 use pmp_plan::{
     AnswerFault, PlanFault, PlanRow, SEARCH_ROOM, Security, State, append_plan, append_verdicts,
 };
-use pmp_text::{Refusal, Script, read_script};
+use pmp_text::{Refusal, ReadScript, read_script_in};
 
 /// The greatest number of a plan's rows.
 const ROWS: usize = 1 << 10;
@@ -29,7 +29,7 @@ const ROWS: usize = 1 << 10;
 const OF_PLAN: u32 = 256;
 
 /// Returns the register file after the first publications, so many, of a script.
-fn file_of(script: &Script, done: u64) -> RegFile
+fn file_of(script: &ReadScript, done: u64) -> RegFile
     requires { done ≤ length script.now.batches }
     ensures { result ≡ file_of_script script.now done }
 {
@@ -40,14 +40,14 @@ fn file_of(script: &Script, done: u64) -> RegFile
 }
 
 /// Returns the register file after so many publications.
-pub fn file_after(script: &[u8], done: u64) -> Result<RegFile, AuditFault>
+pub fn file_after(script: &[u8], done: u64) -> Result<RegFile, ReportFault>
     ensures ok { IfOk result (GivesFile script.now (Some (Number done))) }
     ensures err { IfErr result (Declines (FileRefuses script.now (Some (Number done)))) }
 {
     let mut log = Log::new();
-    let script = read_script(&mut log, script)?;
+    let script = read_script_in(&mut log, script)?;
     if done > script.batches() {
-        return Err(AuditFault::BadAfter);
+        return Err(ReportFault::BadAfter);
     }
     Ok(file_of(&script, done))
 }

@@ -6,10 +6,10 @@ ghost use Rattle.pmp_text.specs.Tables.{is_line_end, records_of};
 ghost use Rattle.pmp_audit.specs.LongParts.{AreJoined};
 ghost use Rattle.pmp_audit.specs.LongPieces.{IsPieceReported, PieceFails};
 
-use crate::fault::AuditFault;
+use crate::fault::ReportFault;
 use crate::piece::{PieceReport, report_piece};
 use crate::standing::Standing;
-use pmp_text::{Moments, Place, Script};
+use pmp_text::{Moments, Place, ReadScript};
 use std::alloc::{AllocError, Global};
 use std::thread;
 use std::thread::Threads;
@@ -21,10 +21,10 @@ pub fn report_parts<T: Threads + Sync>(
     rt: &T,
     alloc: Global,
     parts: usize,
-    script: &Script,
+    script: &ReadScript,
     text: &[u8],
     standing: Standing,
-) -> Result<PieceReport, AuditFault>
+) -> Result<PieceReport, ReportFault>
     requires { standing.faults ≤ standing.place.next }
     ensures ok { IfOk result (IsPieceReported script.now (records_of text.now) standing) }
     ensures err { IfErr result (PieceFails script.now (records_of text.now) standing) }
@@ -39,11 +39,11 @@ pub fn report_parts<T: Threads + Sync>(
     let low = &text[..=end];
     let high = &text[end..];
     let middle = likely_behind(&script.moments(), standing.place, low);
-    let front = move || -> Result<PieceReport, AuditFault>
+    let front = move || -> Result<PieceReport, ReportFault>
         requires { IsSync T.row × (0 < half) × (standing.faults ≤ standing.place.next) }
         ensures { IfOk result (IsPieceReported script.entry.now (records_of low.entry.now) standing) }
     { report_parts(rt, alloc, half, script, low, standing) };
-    let back = move || -> Result<PieceReport, AuditFault>
+    let back = move || -> Result<PieceReport, ReportFault>
         requires { IsSync T.row × (half < parts) × (middle.faults ≤ middle.place.next) }
         ensures { IfOk result (IsPieceReported script.entry.now (records_of high.entry.now) middle) }
     { report_parts(rt, alloc, parts - half, script, high, middle) };
@@ -95,9 +95,9 @@ fn last_after(moments: &Moments<'_>, text: &[u8]) -> Option<u64> {
 
 /// Returns the reports of two parts as one, if both were made, and the second from where the first one ends.
 fn joined(
-    front: Result<PieceReport, AuditFault>,
+    front: Result<PieceReport, ReportFault>,
     middle: Standing,
-    back: Result<PieceReport, AuditFault>,
+    back: Result<PieceReport, ReportFault>,
 ) -> Result<Option<PieceReport>, AllocError>
     ensures { IfOk result (λ joined. IfSome joined (AreJoined front middle back)) }
 {

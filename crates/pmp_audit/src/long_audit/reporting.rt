@@ -6,11 +6,11 @@ ghost use Rattle.pmp_text.specs.Cutting.{IsCut};
 ghost use Rattle.pmp_text.specs.Tables.{records_of};
 ghost use Rattle.pmp_audit.specs.LongPieces.{IsPieceReported, PieceFails};
 
-use crate::fault::AuditFault;
+use crate::fault::ReportFault;
 use crate::long_audit::parts::report_parts;
 use crate::piece::PieceReport;
 use crate::standing::Standing;
-use pmp_text::{Cut, InputFault, Script, cut_piece};
+use pmp_text::{Cut, InputFault, ReadScript, cut_piece};
 use std::alloc::Global;
 use std::io::Read;
 use std::thread;
@@ -21,13 +21,13 @@ pub fn report_and_cut<T: Threads + Sync, R: Read>(
     rt: &T,
     alloc: Global,
     jobs: usize,
-    script: &Script,
+    script: &ReadScript,
     text: &[u8],
     standing: Standing,
     reader: &mut R,
     held: &mut Vec<u8>,
     limit: usize,
-) -> (Result<PieceReport, AuditFault>, Result<Cut, InputFault>)
+) -> (Result<PieceReport, ReportFault>, Result<Cut, InputFault>)
     requires standing { standing.faults ≤ standing.place.next }
     requires held { vec_len held.old ≤ limit }
     ensures ok { IfOk result.0 (IsPieceReported script.now (records_of text.now) standing) }
@@ -39,7 +39,7 @@ pub fn report_and_cut<T: Threads + Sync, R: Read>(
         let report = report_parts(rt, alloc, jobs, script, text, standing);
         return (report, cut_piece(alloc, reader, held, limit));
     }
-    let mut report = || -> Result<PieceReport, AuditFault>
+    let mut report = || -> Result<PieceReport, ReportFault>
         requires { IsSync T.row × (standing.faults ≤ standing.place.next) }
         ensures { IfOk result (IsPieceReported script.entry.now (records_of text.entry.now) standing)
             × IfErr result (PieceFails script.entry.now (records_of text.entry.now) standing) }

@@ -6,7 +6,7 @@ ghost use Rattle.pmp_audit.specs.PolicyCheck.{state_after, step_count, steps_of}
 ghost use Rattle.pmp_audit.specs.PolicySweep.{IsStateOf};
 
 use pmp_core::{Event, RegFile, Span};
-use pmp_text::Script;
+use pmp_text::ReadScript;
 
 /// How often a policy checks.
 #[derive(Clone, Copy, Debug, PartialEq, Eq)]
@@ -20,7 +20,7 @@ pub enum Pace {
 /// The steps of a script.
 #[derive(Clone, Copy)]
 pub struct Steps<'a> {
-    pub script: &'a Script<'a>,
+    pub script: &'a ReadScript<'a>,
     pub pace: Pace,
 }
 

@@ -3,10 +3,10 @@
 ghost use Rattle.std.specs.Prelude.{◌≡◌};
 ghost use Rattle.pmp_audit.specs.Rounds as rounds;
 
-use pmp_text::Row;
+use pmp_text::TraceRow;
 
 /// Returns the rows at the front that ask for exactly `after` publications.
-pub(crate) fn asking(rows: &[Row], after: u64) -> &[Row]
+pub(crate) fn asking(rows: &[TraceRow], after: u64) -> &[TraceRow]
     ensures { result.now ≡ rounds.asking after rows.now }
 {
     match rows.iter().position(|row| row.after != after) {

@@ -13,11 +13,11 @@ ghost use Rattle.pmp_audit.specs.Rounds.{decision_for};
 ghost use Rattle.pmp_audit.specs.SharedAudit.{MayStop};
 
 use super::rounds::decide_asking;
-use crate::fault::AuditFault;
+use crate::fault::ReportFault;
 use crate::gate::Gate;
 use pmp_core::{Decision, Event};
 use pmp_share::{Batch, Checker, Publisher, ShareFault, start_from};
-use pmp_text::{Row, Script};
+use pmp_text::{TraceRow, ReadScript};
 use std::alloc::Global;
 use std::sync::Wait;
 use std::thread::Threads;
@@ -44,9 +44,9 @@ fn decide_rows<R: Threads + Wait + Sync, G: Gate + Sync>(
     gate: &G,
     publisher: &mut Publisher,
     checkers: Vec<Checker>,
-    script: &Script,
-    rows: &[Row],
-) -> Result<Vec<Decision>, AuditFault>
+    script: &ReadScript,
+    rows: &[TraceRow],
+) -> Result<Vec<Decision>, ReportFault>
     requires some { 0 < length checkers.items }
     requires few { length checkers.items ≤ CHECKERS }
     requires same_unit { All (λ checker. checker.unit ≡ publisher.old.unit) checkers.items }
@@ -82,9 +82,9 @@ pub(crate) fn decide_shared<R: Threads + Wait + Sync, G: Gate + Sync>(
     alloc: Global,
     gate: &G,
     k: u8,
-    script: &Script,
-    rows: &[Row],
-) -> Result<Vec<Decision>, AuditFault>
+    script: &ReadScript,
+    rows: &[TraceRow],
+) -> Result<Vec<Decision>, ReportFault>
     requires workers { (1 ≤ k) × (k ≤ CHECKERS) }
     requires size { IsInLimits script.now.batches }
     requires order { IsInOrder (length script.now.batches) 0 (afters (map row_fields rows.now)) }

@@ -2,11 +2,11 @@
 
 ghost use Rattle.std.specs.Prelude.{◌≡◌, ◌+◌, ◌<◌, ◌++◌, ◌⊎◌, IfOk, IfErr, List, OnOk, Ok, Err, Contains, length, map};
 ghost use Rattle.pmp_core.specs.declared.decision.Decision.{Decision};
-ghost use Rattle.pmp_audit.specs.declared.fault.AuditFault.TheVariants.{Memory};
+ghost use Rattle.pmp_audit.specs.declared.fault.ReportFault.TheVariants.{Memory};
 ghost use Rattle.pmp_audit.specs.Rounds.{AreDealt};
 
 use super::job::Done;
-use crate::fault::AuditFault;
+use crate::fault::ReportFault;
 use pmp_core::Decision;
 use pmp_share::Checker;
 use std::alloc::{AllocError, Global};
@@ -14,8 +14,8 @@ use std::alloc::{AllocError, Global};
 /// Returns the results of all workers, or why the first of those that stopped did.
 pub(crate) fn all_done(
     alloc: Global,
-    results: Vec<Result<Done, AuditFault>>,
-) -> Result<Vec<Done>, AuditFault>
+    results: Vec<Result<Done, ReportFault>>,
+) -> Result<Vec<Done>, ReportFault>
     ensures done { IfOk result (λ all. results.items ≡ map Ok all.items) }
     ensures refused { IfErr result (λ fault. Contains results.items (Err fault) ⊎ (fault ≡ Memory)) }
 {

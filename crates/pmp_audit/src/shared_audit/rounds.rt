@@ -11,11 +11,11 @@ use super::asking::asking;
 use super::job::Job;
 use super::merging::{all_done, checkers_of, merge};
 use super::running::run_jobs;
-use crate::fault::AuditFault;
+use crate::fault::ReportFault;
 use crate::gate::Gate;
 use pmp_core::Decision;
 use pmp_share::{Checker, Publisher, ShareFault};
-use pmp_text::Row;
+use pmp_text::TraceRow;
 use std::alloc::Global;
 use std::sync::Wait;
 use std::thread::Threads;
@@ -53,9 +53,9 @@ fn round<R: Threads + Wait + Sync, G: Gate + Sync>(
     gate: &G,
     publisher: &mut Publisher,
     checkers: Vec<Checker>,
-    rows: &[Row],
+    rows: &[TraceRow],
     decided: &mut Vec<Decision>,
-) -> Result<Vec<Checker>, AuditFault>
+) -> Result<Vec<Checker>, ReportFault>
     requires some { 0 < length checkers.items }
     requires few { length checkers.items ≤ CHECKERS }
     requires same_unit { All (λ checker. checker.unit ≡ publisher.old.unit) checkers.items }
@@ -83,9 +83,9 @@ pub(crate) fn decide_asking<R: Threads + Wait + Sync, G: Gate + Sync>(
     publisher: &mut Publisher,
     mut checkers: Vec<Checker>,
     after: u64,
-    rows: &[Row],
+    rows: &[TraceRow],
     decided: &mut Vec<Decision>,
-) -> Result<Vec<Checker>, AuditFault>
+) -> Result<Vec<Checker>, ReportFault>
     requires some { 0 < length checkers.items }
     requires few { length checkers.items ≤ CHECKERS }
     requires same_unit { All (λ checker. checker.unit ≡ publisher.old.unit) checkers.items }

@@ -6,9 +6,9 @@ ghost use Rattle.pmp_audit.specs.Rounds.{AreResults, IsResult};
 
 use super::job::{Done, Job};
 use super::working::work;
-use crate::fault::AuditFault;
+use crate::fault::ReportFault;
 use crate::gate::Gate;
-use pmp_text::Row;
+use pmp_text::TraceRow;
 use std::alloc::{AllocError, Global};
 use std::thread;
 use std::thread::Threads;
@@ -23,9 +23,9 @@ pub(crate) fn run_jobs<R: Threads + Sync, G: Gate + Sync>(
     alloc: Global,
     gate: &G,
     jobs: Vec<Job>,
-    rows: &[Row],
+    rows: &[TraceRow],
     first: u64,
-) -> Result<Vec<Result<Done, AuditFault>>, AllocError>
+) -> Result<Vec<Result<Done, ReportFault>>, AllocError>
     requires some { 0 < length jobs.items }
     requires few { length jobs.items ≤ CHECKERS }
     requires numbered { first + length rows.now ≤ 2 ^ 64 }
@@ -36,7 +36,7 @@ pub(crate) fn run_jobs<R: Threads + Sync, G: Gate + Sync>(
         return thread::map_vec(
             rt,
             jobs,
-            &|job: Job| -> Result<Done, AuditFault>
+            &|job: Job| -> Result<Done, ReportFault>
                 requires { (0 < workers) × (first + length rows.now ≤ 2 ^ 64) }
                 ensures { IsResult workers first rows.entry.now job result }
             { work(alloc, gate, job, workers, rows, first) },

@@ -7,16 +7,16 @@ ghost use Rattle.pmp_audit.specs.Working.{HasLearnt};
 ghost use Rattle.pmp_share.specs.Batches.{event_count};
 
 use super::job::{Done, Job};
-use crate::fault::AuditFault;
+use crate::fault::ReportFault;
 use crate::gate::Gate;
 use pmp_core::{Decision, RegFile};
 use pmp_share::laws::law_same_events;
 use pmp_share::{Checker, Moved};
-use pmp_text::Row;
+use pmp_text::TraceRow;
 use std::alloc::Global;
 
 /// Decides the row in this file, given by `count` events that the checker learnt of, if no more events are published.
-fn ask(checker: &mut Checker, count: u64, file: &RegFile, row: &Row) -> Result<Decision, Moved>
+fn ask(checker: &mut Checker, count: u64, file: &RegFile, row: &TraceRow) -> Result<Decision, Moved>
     requires { HasLearnt checker.old count file.now }
     ensures unit { checker.new.unit ≡ checker.old.unit }
     ensures learnt { OnOk result (HasLearnt checker.new count file.now) }
@@ -38,9 +38,9 @@ pub(crate) fn work<G: Gate>(
     gate: &G,
     job: Job,
     workers: u8,
-    rows: &[Row],
+    rows: &[TraceRow],
     first: u64,
-) -> Result<Done, AuditFault>
+) -> Result<Done, ReportFault>
     requires some { 0 < workers }
     requires numbered { first + length rows.now ≤ 2 ^ 64 }
     ensures result { IsResult workers first rows.now job result }

@@ -77,6 +77,6 @@ fn each_notice_comes_once_and_in_order(rt: HostRuntime) {
     { publish_there(rt, guard, sender) };
     let thread = thread::spawn(&rt, firmware).ok().expect(&rt, "a thread");
     learn_all(&rt, checker, receiver);
-    let journal = thread.join(&rt).into_publisher().end(&rt);
+    let journal = thread.join(&rt).into_publisher().into_journal(&rt);
     assert!(rt; journal.events().len() as u64 == NOTICES);
 }

@@ -165,7 +165,7 @@ impl Unit {
             second,
         } = self;
         let late = tell(rt, &mut publisher);
-        let journal = publisher.end(rt);
+        let journal = publisher.into_journal(rt);
         Left {
             first,
             second,

@@ -6,7 +6,7 @@ ghost use Rattle.pmp_text.specs.GivenBack.{GivesBack, script_text, xlen_line};
 use crate::event_log::FixedLog;
 use crate::lines::registers::{Form, Lines};
 use crate::lines::{NoMemory, text_of};
-use crate::script::read_script;
+use crate::script::read_script_in;
 use crate::sink::Sink;
 use arrayvec::ArrayString;
 use pmp_core::{Hart, RegFile};
@@ -70,7 +70,7 @@ fn gives_back(text: &[u8], file: &RegFile) -> bool
     ensures { IsTrue result → GivesBack file.now text.now }
 {
     let mut log = FixedLog::<1, 1, 1, 1>::new();
-    let Ok(script) = read_script(&mut log, text) else {
+    let Ok(script) = read_script_in(&mut log, text) else {
         return false;
     };
     is_same(&script.start(), file) && script.batches() == 0 && script.expectations().is_empty()

@@ -10,7 +10,7 @@ use crate::moments::Moments;
 use crate::policy::row_fields::{is_labeled_header, is_plain_header, read_policy_row};
 use crate::policy::{Label, Policy};
 use crate::refusal::Refusal;
-use crate::trace::{MAX_TRACE, Records, TraceFault};
+use crate::trace::{MAX_TRACE, Records, RowFault};
 use std::alloc::Global;
 
 /// Reads the rows after the header, perhaps with names and comments.
@@ -19,7 +19,7 @@ fn read_rows(
     records: &mut Records<'_>,
     labeled: bool,
     moments: &Moments<'_>,
-) -> Result<Policy, TraceFault>
+) -> Result<Policy, RowFault>
     ensures given { GivesRows rows_said result (policy_rows_meaning labeled moments.now records.old.left) }
     ensures within { IfOk result (λ policy. All (λ row. row.to ≤ moments.now.publications) policy.rows.items) }
     ensures labels { IfOk result (λ policy.
@@ -44,7 +44,7 @@ fn read_records(
     alloc: Global,
     records: &mut Records<'_>,
     moments: &Moments<'_>,
-) -> Result<Policy, TraceFault>
+) -> Result<Policy, RowFault>
     ensures given { GivesRows rows_said result
         (behind_header is_policy_header (policy_rows_meaning (is_labeled records.old.left) moments.now)
         records.old.left) }
@@ -64,7 +64,7 @@ fn read_records(
 /// Returns the policy that a text describes, for a script with these moments, else its first fault. The time is linear
 /// in the text, and only the rows and one record take memory: if they can't grow, `Memory` is returned instead of any
 /// later fault.
-pub fn read_policy(alloc: Global, text: &[u8], moments: &Moments<'_>) -> Result<Policy, TraceFault>
+pub fn read_policy(alloc: Global, text: &[u8], moments: &Moments<'_>) -> Result<Policy, RowFault>
     ensures given { GivesRows rows_said result (policy_meaning moments.now text.now) }
     ensures within { IfOk result (λ policy. All (λ row. row.to ≤ moments.now.publications) policy.rows.items) }
     ensures labels { IfOk result (λ policy. labels_said policy ≡ policy_labels text.now) }

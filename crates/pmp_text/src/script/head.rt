@@ -8,7 +8,7 @@ ghost use Rattle.pmp_text.specs.Steps.Reading.{IsHead, head_of};
 
 use crate::flaw::Flaw;
 use crate::refusal::Refusal;
-use crate::script::ScriptFault;
+use crate::script::LineFault;
 use crate::script::statement::HeadStatement;
 use arrayvec::ArrayVec;
 use pmp_core::{Hart, Profile, Size};
@@ -84,7 +84,7 @@ impl Head {
     }
 
     /// Takes a line of the head.
-    pub fn take(&mut self, line: u64, statement: HeadStatement) -> Result<(), ScriptFault>
+    pub fn take(&mut self, line: u64, statement: HeadStatement) -> Result<(), LineFault>
         requires { IsHead self.old }
         ensures hart { OnOk result (IsHead self.new) }
         ensures taken { Gives (λ _. head_of self.new) result (after_head (head_of self.old) line statement) }

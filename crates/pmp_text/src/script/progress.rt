@@ -8,7 +8,7 @@ ghost use Rattle.pmp_text.specs.Steps.Progress.{longer, nothing_read, published}
 ghost use Rattle.pmp_text.specs.Steps.Reading.{IsOpen, progress_of};
 
 use crate::event_log::EventLog;
-use crate::script::ScriptFault;
+use crate::script::LineFault;
 use pmp_core::Event;
 
 /// The open batch: the last events of a log, after the published ones.
@@ -33,7 +33,7 @@ impl OpenBatch {
     }
 
     /// Publishes the open batch, and opens an empty one.
-    pub fn publish<L: EventLog>(&mut self, log: &mut L) -> Result<(), ScriptFault>
+    pub fn publish<L: EventLog>(&mut self, log: &mut L) -> Result<(), LineFault>
         requires { IsOpen (L.kept log.old) self.old }
         ensures open { OnOk result (IsOpen (L.kept log.new) self.new) }
         ensures ended { OnOk result (L.kept log.new ≡ with_end (L.kept log.old)) }
@@ -60,7 +60,7 @@ impl OpenBatch {
         log: &mut L,
         line: u64,
         event: Event,
-    ) -> Result<(), ScriptFault>
+    ) -> Result<(), LineFault>
         requires open { IsOpen (L.kept log.old) self.old }
         requires room { length (progress_of (L.kept log.old) self.old).batch < BATCH_EVENTS }
         ensures open { OnOk result (IsOpen (L.kept log.new) self.new) }

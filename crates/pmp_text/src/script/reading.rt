@@ -33,7 +33,7 @@ use crate::script::significant::NumberedLine;
 use crate::script::start::{file_said, start};
 use crate::script::statement::{Statement, read_statement};
 use crate::script::version::Version;
-use crate::script::{Script, ScriptFault, shown_size};
+use crate::script::{ReadScript, LineFault};
 use pmp_core::{BATCH_EVENTS, Event, RegFile};
 
 /// Whether one of these has the name.
@@ -89,7 +89,7 @@ fn mark_flaw(count: usize, marks: &[Mark], name: Name) -> Option<Flaw>
 }
 
 /// Names the moment after the publications of a log, if there is a name.
-fn mark<L: EventLog>(log: &mut L, name: Option<Name>) -> Result<(), ScriptFault>
+fn mark<L: EventLog>(log: &mut L, name: Option<Name>) -> Result<(), LineFault>
     ensures marked { Gives (λ _. (L.kept log.new).marks) result
         (Ok ((L.kept log.old).marks ++ mark_at name (length (L.kept log.old).ends))) }
     ensures kept { OnOk result (L.kept log.new ≡ record (L.kept log.old) { marks = (L.kept log.new).marks }) }
@@ -137,7 +137,7 @@ impl ScriptReading {
         version: Version,
         line: u64,
         event: Event,
-    ) -> Result<(), ScriptFault>
+    ) -> Result<(), LineFault>
         requires { IsReading (L.kept log.old) self.old }
         ensures reading { OnOk result (IsReading (L.kept log.new) self.new) }
         ensures taken { Gives (λ _. reading_of (L.kept log.new) self.new) result
@@ -174,7 +174,7 @@ impl ScriptReading {
         log: &mut L,
         line: NumberedLine,
         writes: Writes,
-    ) -> Result<(), ScriptFault>
+    ) -> Result<(), LineFault>
         requires { IsReading (L.kept log.old) self.old }
         ensures reading { OnOk result (IsReading (L.kept log.new) self.new) }
         ensures taken { Gives (λ _. reading_of (L.kept log.new) self.new) result
@@ -195,7 +195,7 @@ impl ScriptReading {
         log: &mut L,
         line: NumberedLine,
         says: Result<Shorthand, Flaw>,
-    ) -> Result<(), ScriptFault>
+    ) -> Result<(), LineFault>
         requires { IsReading (L.kept log.old) self.old }
         ensures reading { OnOk result (IsReading (L.kept log.new) self.new) }
         ensures taken { let before = reading_of (L.kept log.old) self.old in
@@ -217,7 +217,7 @@ impl ScriptReading {
         log: &mut L,
         version: Version,
         line: NumberedLine,
-    ) -> Result<(), ScriptFault>
+    ) -> Result<(), LineFault>
         requires { IsReading (L.kept log.old) self.old }
         ensures reading { OnOk result (IsReading (L.kept log.new) self.new) }
         ensures taken { Gives (λ _. reading_of (L.kept log.new) self.new) result
@@ -261,7 +261,7 @@ impl ScriptReading {
         log: &mut L,
         version: Version,
         line: NumberedLine,
-    ) -> Result<(), ScriptFault>
+    ) -> Result<(), LineFault>
         requires { IsReading (L.kept log.old) self.old }
         ensures reading { OnOk result (IsReading (L.kept log.new) self.new) }
         ensures taken { let before = reading_of (L.kept log.old) self.old in
@@ -278,7 +278,7 @@ impl ScriptReading {
     }
 
     /// Returns the script, if no events are left unpublished and the head's values are kept.
-    pub fn finish<L: EventLog>(self, log: &L, version: Version) -> Result<Script<'_>, ScriptFault>
+    pub fn finish<L: EventLog>(self, log: &L, version: Version) -> Result<ReadScript<'_>, LineFault>
         requires { IsReading (L.kept log.now) self }
         ensures ok { IfOk result
             (λ script. concluded version (finished (reading_of (L.kept log.now) self)) ≡ Ok script) }
@@ -289,9 +289,9 @@ impl ScriptReading {
             return Err(Refusal::Unpublished.whole().at_line(line));
         }
         match version {
-            Version::Sized(size) => Ok(Script::new(size, RegFile::reset_of(size), log, false)),
+            Version::Sized(size) => Ok(ReadScript::new(size, RegFile::reset_of(size), log, false)),
             Version::Headed => match start(&self.head, log.expectations()) {
-                Ok(file) => Ok(Script::new(shown_size(&file), file, log, true)),
+                Ok(file) => Ok(ReadScript::new(file.size(), file, log, true)),
                 Err(fault) => Err(fault),
             },
         }

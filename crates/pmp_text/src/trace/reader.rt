@@ -9,14 +9,14 @@ ghost use Rattle.pmp_text.specs.Traces.{row_fields, trace_meaning};
 use crate::moments::Moments;
 use crate::refusal::Refusal;
 use crate::trace::rows::{Place, RowReader};
-use crate::trace::{Row, TraceFault};
+use crate::trace::{TraceRow, RowFault};
 use std::alloc::Global;
 
 /// The greatest length of a trace, in bytes.
 pub const MAX_TRACE: usize = 1 << 24;
 
 /// Returns the remaining rows, which begin with the first row of a trace, else the first fault.
-fn read_rows(alloc: Global, left: &mut RowReader<'_>) -> Result<Vec<Row>, TraceFault>
+fn read_rows(alloc: Global, left: &mut RowReader<'_>) -> Result<Vec<TraceRow>, RowFault>
     requires first { left.old.place.last ≡ None }
     requires numbered { left.old.place.next + length left.old.records < 2 ^ 64 }
     ensures { GivesRows (λ rows. map row_fields rows.items) result
@@ -32,7 +32,7 @@ fn read_rows(alloc: Global, left: &mut RowReader<'_>) -> Result<Vec<Row>, TraceF
 /// Returns the rows of the trace that a text describes, for a script with these moments, else its first fault. The time
 /// is linear in the text, and only the rows and one record take memory: if they can't grow, `Memory` is returned
 /// instead of any later fault.
-pub fn read_trace(alloc: Global, text: &[u8], moments: &Moments<'_>) -> Result<Vec<Row>, TraceFault>
+pub fn read_trace_by(alloc: Global, text: &[u8], moments: &Moments<'_>) -> Result<Vec<TraceRow>, RowFault>
     ensures given { GivesRows (λ rows. map row_fields rows.items) result (trace_meaning moments.now text.now) }
     ensures ordered { IfOk result (λ rows. IsInOrder moments.now.publications 0 (afters (map row_fields rows.items))) }
 {

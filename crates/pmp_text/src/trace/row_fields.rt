@@ -12,7 +12,7 @@ use crate::flaw::Flaw;
 use crate::moments::Moments;
 use crate::numbers::{is_bare, read_word_number};
 use crate::refusal::Refusal;
-use crate::trace::Row;
+use crate::trace::TraceRow;
 use crate::words::is_word;
 use csv::ByteRecord;
 use pmp_core::{Access, AccessFault, Kind, Mode};
@@ -121,7 +121,7 @@ impl RowFields {
     }
 
     /// Returns the row, for a script with the given number of publications and after a row that asks for `last`.
-    pub fn check(self, publications: u64, last: Option<u64>) -> Result<Row, Flaw>
+    pub fn check(self, publications: u64, last: Option<u64>) -> Result<TraceRow, Flaw>
         ensures ok { IfOk result (λ row. (fields_fault publications last self ≡ None) × (row_fields row ≡ self)) }
         ensures err { IfErr result (λ flaw. fields_fault publications last self ≡ Some flaw) }
     {
@@ -132,7 +132,7 @@ impl RowFields {
             return Err(Refusal::Order.part(0));
         }
         match Access::new(self.mode, self.kind, self.start, self.length) {
-            Ok(access) => Ok(Row {
+            Ok(access) => Ok(TraceRow {
                 after: self.after,
                 access,
                 is_bare: self.is_bare,

@@ -15,7 +15,7 @@ use crate::refusal::Refusal;
 use crate::trace::plain::{behind_plain_header, plain_line};
 use crate::trace::records::Records;
 use crate::trace::row_fields::{RowFields, is_header};
-use crate::trace::{Row, TraceFault};
+use crate::trace::{TraceRow, RowFault};
 use std::alloc::Global;
 use std::marker::Model;
 
@@ -46,7 +46,7 @@ impl Place {
     }
 
     /// Returns the position after one more row. If its number is the last one there is, the trace is too long.
-    fn behind(self, row: &Row) -> Result<Place, TraceFault>
+    fn behind(self, row: &TraceRow) -> Result<Place, RowFault>
         ensures ok { IfOk result (λ place. (self.next + 1 < 2 ^ 64) × (place ≡ place_after self row.now)) }
         ensures err { IfErr result (λ fault. (fault ≡ too_long_for_rows) × (2 ^ 64 ≤ self.next + 1)) }
     {
@@ -94,7 +94,7 @@ impl<'a> Model for RowReader<'a> {
 }
 
 /// Returns what the next record says, if there is one.
-fn next_said(records: &mut Records<'_>, moments: &Moments<'_>) -> Result<Option<Said>, TraceFault>
+fn next_said(records: &mut Records<'_>, moments: &Moments<'_>) -> Result<Option<Said>, RowFault>
     ensures some { IfOk result (λ found. IfSome found (λ said.
         IsNext moments.now records.old.left said records.new.left)) }
     ensures end { result ≡ Ok None → (records.old.left ≡ []) × (records.new.left ≡ []) }
@@ -117,7 +117,7 @@ impl<'a> RowReader<'a> {
         text: &'a [u8],
         moments: &'a Moments<'a>,
         place: Place,
-    ) -> Result<RowReader<'a>, TraceFault>
+    ) -> Result<RowReader<'a>, RowFault>
         ensures header { IfOk result (λ _. IsHeaded place.begun (records_of text.now)) }
         ensures rows { IfOk result (λ rows. rows ≡ record {
           records = row_records place.begun (records_of text.now);
@@ -158,7 +158,7 @@ impl<'a> RowReader<'a> {
     }
 
     /// Returns what the next record says, if there is one.
-    fn next_fields(&mut self) -> Result<Option<Said>, TraceFault>
+    fn next_fields(&mut self) -> Result<Option<Said>, RowFault>
         ensures some { IfOk result (λ found. IfSome found (λ said.
             IsNext self.old.moments self.old.records said self.new.records)) }
         ensures end { result ≡ Ok None → (self.old.records ≡ []) × (self.new.records ≡ []) }
@@ -178,7 +178,7 @@ impl<'a> RowReader<'a> {
     }
 
     /// Returns the next row, if there is one. After an error the state of the rest is unspecified.
-    pub fn next(&mut self) -> Result<Option<Row>, TraceFault>
+    pub fn next(&mut self) -> Result<Option<TraceRow>, RowFault>
         ensures row { IfOk result (λ found. IfSome found (λ row. IsNextRow self.old row self.new)) }
         ensures end { result ≡ Ok None → (self.old.records ≡ []) × (self.new ≡ self.old) }
         ensures err { IfErr result (λ fault.

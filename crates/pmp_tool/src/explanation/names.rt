@@ -2,7 +2,7 @@
 
 use super::shown::{show_byte, show_text};
 use crate::kept::KeptInput;
-use pmp_text::{GrowingLog, Mark, read_script};
+use pmp_text::{GrowingLog, Mark, read_script_in};
 use std::alloc::{AllocError, Global};
 
 /// The greatest number of names that are listed.
@@ -11,7 +11,7 @@ const NAMES: usize = 16;
 /// Lists the first names that a script gives its moments, if it can be read, and says how many more there are.
 pub fn write_names(alloc: Global, text: &mut String, input: &KeptInput) -> Result<(), AllocError> {
     let mut log = GrowingLog::new(alloc);
-    let Ok(script) = read_script(&mut log, &input.bytes) else {
+    let Ok(script) = read_script_in(&mut log, &input.bytes) else {
         return Ok(());
     };
     text.push_str("names of moments in ")?;

@@ -1,7 +1,7 @@
 use Rattle.std.proofs.Common.{rules, ◌≡◌, ◌≤◌, Err, vec_len, arith}
 use Rattle.std.proofs.lemmas.Result.{IfErr-at_err, IfOk-at_ok}
 use Rattle.pmp_text.specs.Tables.{records_of}
-use Rattle.pmp_audit.specs.declared.fault.AuditFault.TheVariants.{Output}
+use Rattle.pmp_audit.specs.declared.fault.ReportFault.TheVariants.{Output}
 use Rattle.pmp_audit.specs.LongPieces.{PieceFails}
 use Rattle.pmp_audit.proofs.LongSteps.{goes_on, going_begins}
 use Rattle.pmp_audit.proofs.LongTurns.{cut_stops, ends_badly, ends_well, fails, has_front, has_last, no_turn}
@@ -104,9 +104,9 @@ returns-in-Ok-Last-clause-err g c =
 pub returns-in-Err-clause-err : goal.returns-in-Err-clause-err
 returns-in-Err-clause-err g c = λ text means.
     let cut = rw c.in-Err.is at c.loop-count.invariant.3 in
-    rw (c.from.ensures, c.at_row.ensures, c.whole.ensures) (cut_stops c.loop-count.invariant.2 c.args.limit (g.R.Read.remaining c.loop-count.reader)
-    c.loop-count.held.items c.in-Err.refusal cut text means)
+    rw (c.from.ensures, c.at_row.ensures, c.whole.ensures, c.from-2.ensures) (cut_stops c.loop-count.invariant.2 c.args.limit (g.R.Read.remaining c.loop-count.reader)
+    c.loop-count.held.items c.in-Err.fault cut text means)
 
 pub returns-clause-err : goal.returns-clause-err
-returns-clause-err g c = λ text means. rw (c.from-2.ensures, c.at_row-2.ensures, c.whole-2.ensures) (no_turn c.loop-count.invariant.2 c.args.limit
+returns-clause-err g c = λ text means. rw (c.from-3.ensures, c.at_row-2.ensures, c.whole-2.ensures) (no_turn c.loop-count.invariant.2 c.args.limit
     (g.R.Read.remaining c.loop-count.reader) (omega arith) text means)

@@ -93,8 +93,8 @@ returns-in-Ok-Last-clause-ok g c =
 pub returns-in-Err-clause-err : goal.returns-in-Err-clause-err
 returns-in-Err-clause-err g c =
     let going = c.loop-count.invariant.0 in
-    rw c.stop.ensures (stops_here going _ (cut_stops going.taken (imported c.args.given)
-    (g.R.Read.remaining c.cut_lines.new.reader) c.loop-count.importer.walk.line c.in-Err.refusal
+    rw (c.stop.ensures, c.from.ensures) (stops_here going _ (cut_stops going.taken (imported c.args.given)
+    (g.R.Read.remaining c.cut_lines.new.reader) c.loop-count.importer.walk.line c.in-Err.fault
     c.cut_lines.new.held.items c.in-Err.ensures))
 
 pub returns-clause-err : goal.returns-clause-err

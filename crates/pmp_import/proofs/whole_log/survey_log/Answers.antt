@@ -47,8 +47,8 @@ returns-in-Ok-Last-clause-ok g c =
 
 pub returns-in-Err-clause-err : goal.returns-in-Err-clause-err
 returns-in-Err-clause-err g c =
-    rw c.stop.ensures (cant_survey (cut_stops c.loop-count.invariant.taken (surveyed c.args.format c.args.hart)
-    (g.R.Read.remaining c.cut_lines.new.reader) c.loop-count.survey.line c.in-Err.refusal c.cut_lines.new.held.items
+    rw (c.stop.ensures, c.from.ensures) (cant_survey (cut_stops c.loop-count.invariant.taken (surveyed c.args.format c.args.hart)
+    (g.R.Read.remaining c.cut_lines.new.reader) c.loop-count.survey.line c.in-Err.fault c.cut_lines.new.held.items
     c.in-Err.ensures))
 
 pub returns-clause-err : goal.returns-clause-err

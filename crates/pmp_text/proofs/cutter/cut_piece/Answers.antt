@@ -1,5 +1,5 @@
 use Rattle.std.proofs.Common.{arith, rules, ◌≡◌, ◌+◌, Err, None, Some, false, drop, take}
-use Rattle.pmp_text.specs.declared.refusal.Refusal.TheVariants.{TooLong}
+use Rattle.pmp_text.specs.declared.input.InputFault.TheVariants.{TooLong}
 use Rattle.std.proofs.lemmas.List.{length-drop, take_all}
 use Rattle.pmp_text.proofs.CutPieces.{front, uncut}
 use Rattle.pmp_text.proofs.cutter.cut_piece.Goals as goal

@@ -1,5 +1,5 @@
 use Rattle.std.proofs.Common.{◌≡◌, refl, Err, arith, rules, inr}
-use Rattle.pmp_text.specs.declared.refusal.Refusal.TheVariants.{Memory}
+use Rattle.pmp_text.specs.declared.input.InputFault.TheVariants.{Memory}
 use Rattle.pmp_text.proofs.Transfers.{CantReadWhole-after, TakesAtMost-after}
 use Rattle.pmp_text.proofs.input.read_bytes.Goals as goal
 

@@ -3,13 +3,13 @@ use Rattle.std.proofs.Common.{◌≡◌, ◌∙◌, ℕ, List, [], length, take,
 use Rattle.std.specs.Prelude.{Any}
 use Rattle.std.proofs.lemmas.Bool.{false≢true}
 use Rattle.std.proofs.lemmas.List.{length-drop, take_all}
-use Rattle.pmp_text.specs.declared.trace.Row.{Row}
+use Rattle.pmp_text.specs.declared.trace.TraceRow.{TraceRow}
 use Rattle.pmp_audit.specs.Rounds.{asking}
 use Rattle.pmp_audit.proofs.Asking.{some_asks}
 use Rattle.pmp_audit.proofs.shared_audit.rounds.decide_asking.Goals as goal
 
 -- where the rows at the front are asked for, some row is
-asked : (after count : ℕ) (rows next : List Row) → count ≤ length rows
+asked : (after count : ℕ) (rows next : List TraceRow) → count ≤ length rows
     → next ≡ asking after (take (length rows - count) (drop count rows)) → (next ≡ [] → ⊥)
     → Any (λ row. row.after ≡ after) rows
 asked after count rows next within is some =

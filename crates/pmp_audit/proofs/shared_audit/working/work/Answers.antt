@@ -8,17 +8,17 @@ use Rattle.std.proofs.lemmas.Option.{slice_get-get_or}
 use Rattle.pmp_core.specs.declared.decision.Decision.{Decision}
 use Rattle.pmp_core.specs.Ranges.{decision_of}
 use Rattle.pmp_core.specs.RegisterFile.{RegisterFile}
-use Rattle.pmp_text.specs.declared.trace.Row.{Row}
+use Rattle.pmp_text.specs.declared.trace.TraceRow.{TraceRow}
 use Rattle.pmp_audit.specs.Working.{decided_in}
 use Rattle.pmp_audit.proofs.Dealing.{one_dealt, all_dealt}
 use Rattle.pmp_audit.proofs.shared_audit.working.work.Goals as goal
 
 -- the numbered decision of the row at a place
-at_place : (first : ℕ) (file : RegisterFile) (rows : List Row) (place : ℕ) (row : Row) (decision : Decision)
+at_place : (first : ℕ) (file : RegisterFile) (rows : List TraceRow) (place : ℕ) (row : TraceRow) (decision : Decision)
     → place < length rows → decision ≡ decision_of file (get_or rows place row).access
     → slice_get (enumerate_from first (decided_in file rows)) place ≡ Some (first + place, decision)
 at_place first file rows place row decision inside is =
-    let decide : Row → Decision = λ r. decision_of file r.access in
+    let decide : TraceRow → Decision = λ r. decision_of file r.access in
     let many : length (decided_in file rows) ≡ length rows = length-map rows decide in
     let numbered = enumerate_from first (decided_in file rows) in
     slice_get-get_or numbered place (0, decision) (omega (arith, length-enumerate_from first (decided_in file rows)))
@@ -34,7 +34,7 @@ loop-place-preserved g c =
     let turns = length at.decisions.items in
     let own = at_place c.args.first c.file-file.result rows at.place c.index-rows-place.result c.in_ok-decision.decision
     c.loop-place-test.true (c.in_ok-decision.ensures.decided
-    ∙ ap (λ (row : Row). decision_of c.file-file.result row.access) c.index-rows-place.is) in
+    ∙ ap (λ (row : TraceRow). decision_of c.file-file.result row.access) c.index-rows-place.is) in
     let size = length_push at.decisions.items (c.args.first + at.place, c.in_ok-decision.decision) in
     let one_more : length c.push.new.self.items ≡ turns + 1 = ap (λ (l : List (ℕ × Decision)). length l)
     c.in_ok-push.ensures.items ∙ size in

@@ -1,10 +1,9 @@
-use Rattle.std.proofs.Common.{◌≡◌, ◌<◌, ℕ, None}
-use Rattle.pmp_core.specs.Moved.{IsMovedWithin}
+use Rattle.std.proofs.Common.{◌≡◌}
+use Rattle.pmp_core.specs.Moved.{moved_among}
 use Rattle.pmp_core.proofs.registers.Registers.moved_since.Given as goal
 
--- the entries so far are the same, or what they match moved
+-- the entries so far
 abbrev pub invariant-loop-index : goal.invariant-loop-index
 invariant-loop-index l = record {
-  within : (i : ℕ) → i < l.index → IsMovedWithin l.before l.self l.moved i;
-  none : l.before ≡ l.self → l.moved ≡ None;
+  moved : l.moved ≡ moved_among l.before l.self 0 l.index;
 }

@@ -1,6 +1,6 @@
 use Rattle.std.proofs.Common.{ℕ, List, Result, inl, ◌∙◌, arith}
 use Rattle.pmp_text.specs.declared.policy.row_fields.PolicyFields.{PolicyFields}
-use Rattle.pmp_text.specs.declared.trace.TraceFault.{TraceFault}
+use Rattle.pmp_text.specs.declared.trace.RowFault.{RowFault}
 use Rattle.pmp_text.specs.Moments.{KnownMoments}
 use Rattle.pmp_text.specs.Policies.{is_labeled, is_policy_header, policy_rows_meaning}
 use Rattle.pmp_text.specs.Tables.{records_of}
@@ -8,7 +8,7 @@ use Rattle.pmp_text.proofs.Rows.{long_text, by_records, policy_is}
 use Rattle.pmp_text.proofs.policy.reader.read_policy.Goals as goal
 
 -- what the records behind the header mean
-abbrev behind : KnownMoments → (text : List ℕ) → List (List (List ℕ)) → Result (List PolicyFields) TraceFault
+abbrev behind : KnownMoments → (text : List ℕ) → List (List (List ℕ)) → Result (List PolicyFields) RowFault
 behind moments text = policy_rows_meaning (is_labeled (records_of text)) moments
 
 pub returns-then-text-gt-MAX_TRACE-clause-given : goal.returns-then-text-gt-MAX_TRACE-clause-given

@@ -1,5 +1,5 @@
 use Rattle.pmp_text.proofs.Pieces.{length-cut_from}
-use Rattle.pmp_text.proofs.script.Script.lines.Goals as goal
+use Rattle.pmp_text.proofs.script.ReadScript.lines.Goals as goal
 
 pub part_of-requires-clause-index : goal.part_of-requires-clause-index
 part_of-requires-clause-index c =

@@ -4,7 +4,7 @@ use Rattle.pmp_text.specs.Steps.Progress.{concluded}
 use Rattle.pmp_text.specs.Steps.Views.{seen_line, lines_left}
 use Rattle.pmp_text.proofs.Longhands.{reads_longhand}
 use Rattle.pmp_text.proofs.Meanings.{long_script, no_version, no_size, with_size}
-use Rattle.pmp_text.proofs.script.reader.read_script.Goals as goal
+use Rattle.pmp_text.proofs.script.reader.read_script_in.Goals as goal
 
 pub returns-then-is_too_long : goal.returns-then-is_too_long
 returns-then-is_too_long g c = rw (c.at_line.ensures, c.whole.ensures)

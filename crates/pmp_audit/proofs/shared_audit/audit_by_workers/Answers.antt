@@ -4,7 +4,7 @@ use Rattle.pmp_text.specs.Sizes.{IsInLimits}
 use Rattle.pmp_audit.specs.SharedAudit.{SharedAuditRefuses}
 use Rattle.pmp_audit.specs.TraceAudit.{AuditSays}
 use Rattle.pmp_audit.proofs.FaultyInputs.{script_refused}
-use Rattle.pmp_audit.proofs.shared_audit.audit_shared.Goals as goal
+use Rattle.pmp_audit.proofs.shared_audit.audit_by_workers.Goals as goal
 
 pub audit_trace-requires-clause-size : goal.audit_trace-requires-clause-size
 audit_trace-requires-clause-size g c =

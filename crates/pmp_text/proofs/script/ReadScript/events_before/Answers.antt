@@ -1,6 +1,6 @@
 use Rattle.std.proofs.Common.{◌∙◌, arith}
 use Rattle.pmp_text.proofs.Pieces.{length-cut_from, length_of_first}
-use Rattle.pmp_text.proofs.script.Script.events_before.Goals as goal
+use Rattle.pmp_text.proofs.script.ReadScript.events_before.Goals as goal
 
 pub end_of-requires : goal.end_of-requires
 end_of-requires c =

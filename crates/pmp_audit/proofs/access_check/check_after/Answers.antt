@@ -1,7 +1,7 @@
 use Rattle.pmp_audit.specs.AccessCheck.{CheckSays}
 use Rattle.pmp_audit.specs.AskedFile.{FileRefuses}
 use Rattle.pmp_audit.proofs.WrittenAnswers.{refused_so}
-use Rattle.pmp_audit.proofs.access_check.check.Goals as goal
+use Rattle.pmp_audit.proofs.access_check.check_after.Goals as goal
 
 pub returns-clause-err : goal.returns-clause-err
 returns-clause-err g c =

@@ -1,7 +1,7 @@
 use Rattle.std.proofs.lemmas.Result.{err_from_is_err_and}
 use Rattle.pmp_audit.specs.TraceAudit.{AuditRefuses, AuditSays}
 use Rattle.pmp_audit.proofs.FaultyInputs.{script_refused}
-use Rattle.pmp_audit.proofs.trace_audit.audit.Goals as goal
+use Rattle.pmp_audit.proofs.trace_audit.audit_whole.Goals as goal
 
 pub returns-in_err-script-clause-err : goal.returns-in_err-script-clause-err
 returns-in_err-script-clause-err g c =

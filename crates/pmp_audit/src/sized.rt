@@ -1,0 +1,213 @@
+//! Answers about scripts of versions 1 and 2, with faults and sums as simple as those are.
+
+ghost use Rattle.std.specs.Prelude.{◌≡◌, ◌≤◌, IfErr, IfOk, None, OnOk, Some};
+ghost use Rattle.pmp_share.specs.declared.opening.TheConstants.{CHECKERS};
+ghost use Rattle.pmp_text.specs.SizedScripts.{unsized_fault};
+ghost use Rattle.pmp_text.specs.declared.script.sized.ScriptFault.{ScriptFault};
+ghost use Rattle.pmp_audit.specs.AccessCheck.{CheckSays};
+ghost use Rattle.pmp_audit.specs.AskedFile.{FileRefuses};
+ghost use Rattle.pmp_audit.specs.SharedAudit.{SharedAuditRefuses};
+ghost use Rattle.pmp_audit.specs.SizedAnswers.{IsRefusedSized, IsSized, audit_fault, counts_of, numbered_after};
+ghost use Rattle.pmp_audit.specs.SizedAnswers.{AreCounted};
+ghost use Rattle.pmp_audit.specs.TraceAudit.{AuditRefuses, AuditSays};
+ghost use Rattle.pmp_audit.specs.View.{ViewSays};
+ghost use Rattle.pmp_audit.specs.declared.sized.AuditFault.TheVariants as sized;
+ghost use Rattle.pmp_audit.specs.declared.view.View.TheVariants.{Registers, Runs};
+
+use crate::access_check::check_after;
+use crate::fault::ReportFault;
+use crate::gate::Gate;
+use crate::shared_audit::audit_by_workers;
+use crate::trace_audit::{AuditSummary, audit_whole};
+use crate::view::{View, show};
+use pmp_core::{Access, Decision};
+use pmp_share::{Moved, ShareFault};
+use pmp_text::{ScriptFault, TraceFault, When, unsized_fault};
+use std::alloc::Global;
+use std::io::Write;
+use std::sync::Wait;
+use std::thread::Threads;
+use thiserror::Error;
+
+/// Why a script of version 1 or 2, or that and a trace, get no answer.
+#[derive(Clone, Copy, Debug, PartialEq, Eq, Error)]
+pub enum AuditFault {
+    /// The script's own fault, except `Memory`.
+    #[error("the script has a fault")]
+    Script(ScriptFault),
+    /// The trace's own fault, or that its input failed; not `Memory`.
+    #[error("the trace has a fault")]
+    Trace(TraceFault),
+    /// The shared unit's refusal, except `Memory`.
+    #[error("the shared unit has no place")]
+    Share(ShareFault),
+    /// More events were published than a worker's notice reported.
+    #[error("more events were published than a worker was told of")]
+    Moved(Moved),
+    /// The script has fewer publications than were asked for.
+    #[error("the script has fewer publications than were asked for")]
+    BadAfter,
+    /// Out of memory.
+    #[error("out of memory")]
+    Memory,
+    /// The output can't be written.
+    #[error("the output can't be written")]
+    Output,
+}
+
+/// How many accesses an audit decided, and how many of them it refused.
+#[derive(Clone, Copy, Debug, Default, PartialEq, Eq)]
+pub struct Summary {
+    pub rows: u64,
+    pub faults: u64,
+}
+
+impl From<ReportFault> for AuditFault {
+    ghost from_gives = { λ fault simple. simple ≡ audit_fault fault };
+
+    fn from(fault: ReportFault) -> AuditFault {
+        match fault {
+            ReportFault::Script(fault) | ReportFault::ScriptOf(_, fault) => {
+                AuditFault::Script(ScriptFault::from(fault))
+            }
+            ReportFault::Trace(fault) | ReportFault::Policy(fault) => {
+                AuditFault::Trace(TraceFault::from(fault))
+            }
+            ReportFault::Share(fault) => AuditFault::Share(fault),
+            ReportFault::Moved(moved) => AuditFault::Moved(moved),
+            ReportFault::BadAfter | ReportFault::BadAfterOf(_) => AuditFault::BadAfter,
+            ReportFault::NoMoment | ReportFault::NoMomentOf(_) => AuditFault::BadAfter,
+            ReportFault::Memory => AuditFault::Memory,
+            ReportFault::Output => AuditFault::Output,
+        }
+    }
+}
+
+impl AuditSummary {
+    /// Returns the two numbers of it.
+    fn counts(self) -> Summary
+        ensures { result ≡ counts_of self }
+    {
+        Summary {
+            rows: self.rows,
+            faults: self.faults,
+        }
+    }
+}
+
+/// Refuses a text whose length or version is that of no script of version 1 or 2.
+fn want_sized(script: &[u8]) -> Result<(), AuditFault>
+    ensures ok { OnOk result (unsized_fault script.now ≡ None) }
+    ensures err { IfErr result (λ fault.
+        (first : ScriptFault) × (unsized_fault script.now ≡ Some first) × (fault ≡ sized.Script first)) }
+{
+    match unsized_fault(script) {
+        Some(fault) => Err(AuditFault::Script(fault)),
+        None => Ok(()),
+    }
+}
+
+/// Decides the access after all publications of the script, and writes its report row, with the number 1.
+///
+/// The row is complete before its first byte is written, so every refusal but `Output` leaves the output untouched.
+/// [`check_after`](crate::check_after) does so for a script of any version, and at any moment.
+#[inline(never)]
+pub fn check<W: Write>(
+    alloc: Global,
+    script: &[u8],
+    access: &Access,
+    writer: &mut W,
+) -> Result<Decision, AuditFault>
+    ensures ok { IfOk result (IsSized (CheckSays script.now access.now None) script.now
+        (W.contents writer.old) (W.contents writer.new)) }
+    ensures err { IfErr result (IsRefusedSized (CheckSays script.now access.now None) script.now
+        (W.contents writer.old) (W.contents writer.new) (FileRefuses script.now None)) }
+{
+    want_sized(script)?;
+    Ok(check_after(alloc, script, access, None, writer)?)
+}
+
+/// Decides each row of the trace in the register file after the publications that it asks for, and writes a report row
+/// for each, numbered from 1.
+///
+/// The script's fault comes before any of the trace. The report is complete before its first byte is written, so every
+/// refusal but `Output` leaves the output untouched. [`audit_whole`](crate::audit_whole) does so for a script of any
+/// version, whose moments rows may name.
+#[inline(never)]
+pub fn audit<W: Write>(
+    alloc: Global,
+    script: &[u8],
+    trace: &[u8],
+    writer: &mut W,
+) -> Result<Summary, AuditFault>
+    ensures ok { IfOk result (IsSized (AreCounted script.now trace.now) script.now
+        (W.contents writer.old) (W.contents writer.new)) }
+    ensures err { IfErr result (IsRefusedSized (AuditSays script.now trace.now) script.now
+        (W.contents writer.old) (W.contents writer.new) (AuditRefuses script.now trace.now)) }
+{
+    want_sized(script)?;
+    let summary = audit_whole(alloc, script, trace, writer)?;
+    Ok(summary.counts())
+}
+
+/// Works as [`audit`], with `k` workers, each with a checker of one unit and usually a thread of its own, as
+/// [`audit_by_workers`](crate::audit_by_workers) does for a script of any version.
+///
+/// Besides the refusals of `audit` it may return `Share(NoPlace)` and `Moved`, both only if neither input has a fault.
+/// In every case the workers have ended when it returns. It may wait.
+#[inline(never)]
+pub fn audit_shared<R: Threads + Wait + Sync, G: Gate + Sync, W: Write>(
+    rt: &R,
+    alloc: Global,
+    gate: &G,
+    k: u8,
+    script: &[u8],
+    trace: &[u8],
+    writer: &mut W,
+) -> Result<Summary, AuditFault>
+    requires { (1 ≤ k) × (k ≤ CHECKERS) }
+    ensures ok { IfOk result (IsSized (AreCounted script.now trace.now) script.now
+        (W.contents writer.old) (W.contents writer.new)) }
+    ensures err { IfErr result (IsRefusedSized (AuditSays script.now trace.now) script.now
+        (W.contents writer.old) (W.contents writer.new) (SharedAuditRefuses script.now trace.now)) }
+{
+    want_sized(script)?;
+    let summary = audit_by_workers(rt, alloc, gate, k, script, trace, writer)?;
+    Ok(summary.counts())
+}
+
+/// Writes the runs after so many publications, or after all of them, a line for each: which bytes each entry owns, and
+/// what it lets each mode do there. [`show`] does so for a script of any version, and at any moment.
+#[inline(never)]
+pub fn map_of<W: Write>(
+    alloc: Global,
+    script: &[u8],
+    after: Option<u64>,
+    writer: &mut W,
+) -> Result<(), AuditFault>
+    ensures ok { IfOk result (IsSized (ViewSays Runs script.now (numbered_after after)) script.now
+        (W.contents writer.old) (W.contents writer.new)) }
+    ensures err { IfErr result (IsRefusedSized (ViewSays Runs script.now (numbered_after after)) script.now
+        (W.contents writer.old) (W.contents writer.new) (FileRefuses script.now (numbered_after after))) }
+{
+    want_sized(script)?;
+    Ok(show(alloc, View::Runs, script, after.map(When::Number), writer)?)
+}
+
+/// Writes the registers after so many publications, or after all of them, a line for each. [`show`] does so for a
+/// script of any version, and at any moment.
+#[inline(never)]
+pub fn dump<W: Write>(
+    alloc: Global,
+    script: &[u8],
+    after: Option<u64>,
+    writer: &mut W,
+) -> Result<(), AuditFault>
+    ensures ok { IfOk result (IsSized (ViewSays Registers script.now (numbered_after after)) script.now
+        (W.contents writer.old) (W.contents writer.new)) }
+    ensures err { IfErr result (IsRefusedSized (ViewSays Registers script.now (numbered_after after)) script.now
+        (W.contents writer.old) (W.contents writer.new) (FileRefuses script.now (numbered_after after))) }
+{
+    want_sized(script)?;
+    Ok(show(alloc, View::Registers, script, after.map(When::Number), writer)?)
+}
