@@ -27,6 +27,7 @@ pub mod Growing
 pub mod Report
 pub mod EventRows
 pub mod SinceStep
+pub mod SizedAnswers
 pub mod LastingStep
 pub mod Working
 pub mod Rounds

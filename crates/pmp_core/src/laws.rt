@@ -165,8 +165,8 @@ pub fn law_others()
     ensures { OthersLaw }
 {}
 
-/// A write leaves the decisions on accesses with no byte of the entries that it moved, in a legal register file: of the
-/// eight of a configuration register, those that changed.
+/// A write leaves the decisions on accesses with no byte of the entries that it moved, in a legal register file: of a
+/// configuration register's, eight on RV64 and four on RV32, those that changed.
 pub fn law_moved()
     ensures { (file : RegisterFile) (csr : Csr) (value : ℕ) → IsLegal file
         → AreAlikeBeside file (written file csr value) (moved_by file (written file csr value) csr) }

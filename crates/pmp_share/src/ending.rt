@@ -20,6 +20,6 @@ impl<R: Wait + Drop> Ending<R> {
     pub fn end(self, publisher: Publisher) -> Journal
         ensures { result ≡ publisher.published }
     {
-        publisher.end(&self.rt)
+        publisher.into_journal(&self.rt)
     }
 }

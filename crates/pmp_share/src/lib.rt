@@ -1,8 +1,8 @@
 //! A PMP unit that threads share: one publisher reprograms it in whole batches, while checkers decide accesses.
 //!
 //! A checker decides each access in the register file that published batches give. `start` creates the publisher and
-//! checkers, `start_of` those of a unit of either size, and `start_from` those of a unit that begins with saved
-//! registers. The definitions that contracts cite are in `specs/`.
+//! checkers of a unit of sixteen entries, `start_of` those of either size, `start_on` those of any hart, and
+//! `start_from` those of a unit that begins with saved registers. The definitions that contracts cite are in `specs/`.
 #![tactic(auto)]
 
 mod batch;

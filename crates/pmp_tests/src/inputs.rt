@@ -1,8 +1,8 @@
 //! Readers that never end, and readers that fail.
 
 use pmp_text::{
-    GrowingLog, MAX_SCRIPT, MAX_TRACE, Moments, Refusal, LineFault, read_bytes, read_script_in,
-    read_trace_by,
+    GrowingLog, InputFault, LineFault, MAX_SCRIPT, MAX_TRACE, Moments, Refusal, read_bytes,
+    read_script_in, read_trace_by,
 };
 use std::alloc::Global;
 use std::io;
@@ -40,10 +40,10 @@ impl Read for Failing {
 #[test]
 fn takes_no_more_than_it_needs(rt: HostRuntime) {
     for (most, kind, given, reads, fault) in [
-        (u64::MAX, ErrorKind::Other, 101, 15, Refusal::TooLong),
-        (98, ErrorKind::Other, 98, 15, Refusal::Input),
-        (98, ErrorKind::Interrupted, 98, 15, Refusal::Input),
-        (0, ErrorKind::Other, 0, 1, Refusal::Input),
+        (u64::MAX, ErrorKind::Other, 101, 15, InputFault::TooLong),
+        (98, ErrorKind::Other, 98, 15, InputFault::Input),
+        (98, ErrorKind::Interrupted, 98, 15, InputFault::Input),
+        (0, ErrorKind::Other, 0, 1, InputFault::Input),
     ] {
         let mut reader = Failing {
             given: 0,

@@ -15,6 +15,8 @@ mod rows;
 #[cfg(test)]
 mod sharing;
 #[cfg(test)]
+mod surface;
+#[cfg(test)]
 mod using;
 #[cfg(test)]
 mod values;

@@ -5,7 +5,6 @@ use Rattle.std.specs.Prelude.{option_map}
 use Rattle.std.specs.Option.{option_or}
 use Rattle.std.specs.List.{cons_option, onto_first}
 use Rattle.std.proofs.lemmas.List.{append-nil}
-use Rattle.pmp_core.specs.declared.event.Event.{Event}
 use Rattle.pmp_text.specs.declared.flaw.Flaw.{Flaw}
 use Rattle.pmp_text.specs.declared.script.LineFault.{LineFault}
 use Rattle.pmp_text.specs.declared.script.statement.Statement.{Statement}

@@ -21,6 +21,7 @@ pub mod LongTraces
 pub mod Marks
 pub mod Moments
 pub mod Names
+pub mod NumberedTraces
 pub mod Numbers
 pub mod Outcomes
 pub mod Picture
@@ -42,6 +43,7 @@ pub mod Verdicts
 -- Laws of these definitions, all proved.
 pub mod Faults
 pub mod PolicyFaults
+pub mod SizedScripts
 pub mod Sizes
 pub mod TraceFaults
 pub mod Versions

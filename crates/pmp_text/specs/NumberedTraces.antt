@@ -1,5 +1,5 @@
 -- Traces whose rows ask for numbers of publications, as they do where a script names no moments.
-use Rattle.std.specs.Prelude.{◌≡◌, ◌⊎◌, ℕ, List, map, Result, Ok, Err}
+use Rattle.std.specs.Prelude.{◌≡◌, ◌⊎◌, ℕ, List, map, Ok, Err}
 use Rattle.pmp_text.specs.declared.refusal.Refusal.{Refusal}
 use Rattle.pmp_text.specs.declared.refusal.Refusal.TheVariants as refusal
 use Rattle.pmp_text.specs.declared.trace.RowFault.{RowFault}

@@ -42,11 +42,12 @@ pub use policy::{
 };
 pub use refusal::Refusal;
 pub use script::{
-    LineFault, MAX_EVENTS, MAX_HEADED_SCRIPT, MAX_SCRIPT, ReadScript, Script, ScriptFault, ScriptKind, Words,
-    is_headed, read_rights, read_script, read_script_in, split_first_line, unsized_fault,
+    LineFault, MAX_EVENTS, MAX_HEADED_SCRIPT, MAX_SCRIPT, ReadScript, Script, ScriptFault,
+    ScriptKind, Words, is_headed, read_rights, read_script, read_script_in, split_first_line,
+    unsized_fault,
 };
 pub use sink::Sink;
 pub use trace::{
-    MAX_TRACE, Place, Records, Row, RowFault, RowReader, TraceFault, TraceKind, TraceRow, read_trace,
-    read_trace_by,
+    MAX_TRACE, Place, Records, Row, RowFault, RowReader, TraceFault, TraceKind, TraceRow,
+    read_trace, read_trace_by,
 };

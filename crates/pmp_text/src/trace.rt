@@ -11,9 +11,9 @@ mod row_fields;
 mod rows;
 
 use crate::refusal::Refusal;
+pub use numbered::{Row, TraceFault, TraceKind, read_trace};
 pub(crate) use plain::is_apart;
 use pmp_core::Access;
-pub use numbered::{Row, TraceFault, TraceKind, read_trace};
 pub use reader::{MAX_TRACE, read_trace_by};
 pub use records::Records;
 pub use rows::{Place, RowReader};

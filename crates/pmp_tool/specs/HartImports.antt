@@ -86,7 +86,7 @@ module _ (paths : Paths) (command : Command) (import : Import) where
     pub all : List HartScript
     pub are : AreOf (writers survey) all
     pub some : 0 < length all
-    pub in_folder : AreMade path all made.scripts
+    pub in_folder : AreMade path all paths made
     pub is : outcome ≡ Imported (Scripts (length all))
 
   -- why there is no folder: the log can't be read or has no hart, an import fails, or the folder can't be made

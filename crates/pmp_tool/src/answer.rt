@@ -5,7 +5,7 @@ ghost use Rattle.pmp_tool.specs.Inputs.{AreBytesOf, Inputs, Paths};
 ghost use Rattle.pmp_audit.specs.Answers.{IsWritten};
 ghost use Rattle.pmp_tool.specs.Requests.{ImportFails, IsGiven, IsUnread, RequestFails, RequestSays, has_names};
 ghost use Rattle.pmp_tool.specs.Requests.{name_allowed, old_side};
-ghost use Rattle.pmp_tool.specs.CommandAnswers.{CommandAnswers, CommandFails, IsScriptOf};
+ghost use Rattle.pmp_tool.specs.CommandAnswers.{CommandAnswers, CommandFails, HasNoScript, IsScriptOf, unscripted};
 ghost use Rattle.pmp_tool.specs.NumberedInputs.{paths_for, with_traces};
 ghost use Rattle.pmp_tool.specs.declared.request.Request.TheVariants as request;
 
@@ -279,14 +279,30 @@ fn script_of<I: Inputs>(
 ) -> Result<Vec<u8>, Failure>
     ensures read { IfOk result (λ bytes. IsScriptOf command.entry.request ((I.paths inputs.old).scripts
         command.entry.script.now) bytes.items) }
-    ensures unread { IfErr result (IsUnread ((I.paths inputs.old).scripts command.entry.script.now)
-        (old_side command.entry.request)) }
+    ensures unread { IfErr result (HasNoScript command.entry.request ((I.paths inputs.old).scripts
+        command.entry.script.now)) }
     ensures paths { I.paths inputs.new ≡ I.paths inputs.old }
 {
     if let Request::Import(_) = command.request {
         return Ok(Vec::new(alloc));
     }
-    script_at(inputs, command.script, old_side(command.request))
+    match script_at(inputs, command.script, old_side(command.request)) {
+        Ok(script) => Ok(script),
+        Err(failure) => Err(unscripted(command.request, failure)),
+    }
+}
+
+/// Returns the failure of a command whose script can't be read: that of its word for a moment, if that is no number and
+/// a view was asked for.
+fn unscripted(request: Request<'_>, unread: Failure) -> Failure
+    ensures { result ≡ unscripted request.entry unread }
+{
+    match request {
+        Request::Show(_, Some(When::Labelled(_))) => {
+            Failure::from(FaultLine::of_word(Argument::After))
+        }
+        _ => unread,
+    }
 }
 
 /// Returns the side of the command's script, if there are two.

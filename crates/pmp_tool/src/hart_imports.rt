@@ -112,6 +112,7 @@ pub fn import_harts<R: Threads + Wait + Sync, I: Inputs>(
 ) -> Result<Outcome, Failure>
     ensures ok { IfOk result (Makes (I.paths inputs.old) command.entry import.entry folder.now (I.paths inputs.new)) }
     ensures err { IfErr result (CantMake (I.paths inputs.old) command.entry import.entry) }
+    ensures unchanged { OnErr result (I.paths inputs.new ≡ I.paths inputs.old) }
 {
     let survey = survey_at(alloc, import.log, import.format, inputs)?;
     let all = import_each(rt, alloc, command, import, &survey, inputs)?;

@@ -1,6 +1,6 @@
 //! The sources of the program's inputs.
 
-ghost use Rattle.std.specs.Prelude.{◌≡◌, ℕ, ◌≤◌, List, length, map, string_bytes, option_map, Option, None, IfOk, IfErr, OnOk};
+ghost use Rattle.std.specs.Prelude.{◌≡◌, ℕ, ◌≤◌, List, length, map, string_bytes, option_map, Option, None, IfOk, IfErr, OnErr, OnOk};
 ghost use Rattle.pmp_text.specs.Inputs.{refusal_of_input};
 ghost use Rattle.pmp_text.specs.declared.input.TheConstants.{MAX_LIMIT};
 ghost use Rattle.pmp_text.specs.declared.script.reader.TheConstants.{MAX_HEADED_SCRIPT};
@@ -58,8 +58,9 @@ pub trait Inputs {
 
     /// Creates a folder at this path, with these scripts. If that can't be done completely there is no folder.
     fn make_folder(&mut self, path: &str, files: &[HartScript]) -> Result<(), Refusal>
-        ensures made { OnOk result (AreMade path.now files.now (paths self.new).scripts) }
-        ensures unmade { IfErr result CantBeMade };
+        ensures made { OnOk result (AreMade path.now files.now (paths self.old) (paths self.new)) }
+        ensures unmade { IfErr result CantBeMade }
+        ensures unchanged { OnErr result (paths self.new ≡ paths self.old) };
 
     /// Forgets the inputs that are kept.
     fn forget(&mut self)

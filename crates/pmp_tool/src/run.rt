@@ -1,6 +1,6 @@
 //! The program: from words to an exit status.
 
-ghost use Rattle.std.specs.Prelude.{◌≡◌, ◌⊎◌, ℕ, ◌≤◌, List, map, IfOk, IfErr, None, Some, string_bytes};
+ghost use Rattle.std.specs.Prelude.{◌≡◌, ◌⊎◌, ℕ, ◌≤◌, List, map, IfOk, IfErr, None, OnErr, Some, string_bytes};
 ghost use Rattle.std.specs.Io.KnownBytes.{Appends, Keeps};
 ghost use Rattle.pmp_tool.specs.CommandLines.{AsksForPieces};
 ghost use Rattle.pmp_tool.specs.Explanations.{TellsAndExplains};
@@ -66,6 +66,9 @@ pub fn run_tool<R: Threads + Wait + Sync, I: Inputs, O: Write, E: Write>(
         × Fails (map string_bytes words.now) (I.paths inputs.old) (O.contents out.old) (O.contents out.new) failure
         × TellsAndExplains (map string_bytes words.now) failure (E.contents err.old) (E.contents err.new) }
 
+    // A refused command leaves what stands at each path.
+    ensures unchanged { 2 ≤ result → I.paths inputs.new ≡ I.paths inputs.old }
+
     // A long audit may be refused after rows that it wrote, and an import after lines; nothing else may.
     ensures untouched { result ≡ 2 → AsksForPieces (map string_bytes words.now)
         ⊎ Keeps (O.contents out.old) (O.contents out.new) }
@@ -94,6 +97,7 @@ fn run<R: Threads + Wait + Sync, I: Inputs, O: Write>(
         (O.contents out.new) (I.paths inputs.new)) }
     ensures err { IfErr result (Fails (map string_bytes words.now) (I.paths inputs.old) (O.contents out.old)
         (O.contents out.new)) }
+    ensures unchanged { OnErr result (I.paths inputs.new ≡ I.paths inputs.old) }
 {
     match parse_words(alloc, words) {
         Ok(matches) => answer_words(rt, alloc, &matches, inputs, out),
@@ -114,6 +118,7 @@ fn answer_words<R: Threads + Wait + Sync, I: Inputs, O: Write>(
         (O.contents out.new) (I.paths inputs.new)) }
     ensures err { IfErr result (DoesNot (subcommand_rows_of matches.now) (I.paths inputs.old) (O.contents out.old)
         (O.contents out.new)) }
+    ensures unchanged { OnErr result (I.paths inputs.new ≡ I.paths inputs.old) }
 {
     let Some(format) = asked_format(matches)? else {
         return answer_rows(rt, alloc, matches, inputs, out);
@@ -141,6 +146,7 @@ fn answer_rows<R: Threads + Wait + Sync, I: Inputs, O: Write>(
         (O.contents out.new) (I.paths inputs.new)) }
     ensures err { IfErr result (DoesNoRows (subcommand_rows_of matches.now) (I.paths inputs.old) (O.contents out.old)
         (O.contents out.new)) }
+    ensures unchanged { OnErr result (I.paths inputs.new ≡ I.paths inputs.old) }
 {
     let Some(path) = names_path(matches)? else {
         let command = read_command(matches, &[])?;
@@ -162,6 +168,7 @@ fn answer_with<R: Threads + Wait + Sync, I: Inputs, O: Write>(
         (O.contents out.new) (Some path.now) (I.paths inputs.new)) }
     ensures err { IfErr result (DoesNotAt (subcommand_rows_of matches.now) (I.paths inputs.old) (O.contents out.old)
         (O.contents out.new) (Some path.now)) }
+    ensures unchanged { OnErr result (I.paths inputs.new ≡ I.paths inputs.old) }
 {
     let text = inputs.trace(path)?;
     let names = read_names(alloc, &text)?;
@@ -184,6 +191,7 @@ fn answer_command<R: Threads + Wait + Sync, I: Inputs, O: Write>(
         naming.entry (I.paths inputs.new)) }
     ensures err { IfErr result (Undone (I.paths inputs.old) command.entry (O.contents out.old) (O.contents out.new)
         naming.entry) }
+    ensures unchanged { OnErr result (I.paths inputs.new ≡ I.paths inputs.old) }
 {
     if let Some((import, folder)) = new_folder(command.request) {
         return import_harts(rt, alloc, command, import, folder, inputs);

@@ -12,7 +12,7 @@ use crate::refusal::Refusal;
 use crate::script::reading::ScriptReading;
 use crate::script::significant::SignificantLines;
 use crate::script::version::{Version, read_version};
-use crate::script::{ReadScript, LineFault};
+use crate::script::{LineFault, ReadScript};
 
 /// The greatest length of a script of version 1 or 2, in bytes.
 pub const MAX_SCRIPT: usize = 1 << 20;
@@ -50,7 +50,10 @@ fn is_too_long(text: &[u8]) -> bool
 /// Returns the script that a text describes, else its first fault. The time is linear in the text, and only the
 /// publications and expectations take room, in the log, which is cleared first: if there is none, `Memory` is returned
 /// instead of any later fault.
-pub fn read_script_in<'a, L: EventLog>(log: &'a mut L, text: &[u8]) -> Result<ReadScript<'a>, LineFault>
+pub fn read_script_in<'a, L: EventLog>(
+    log: &'a mut L,
+    text: &[u8],
+) -> Result<ReadScript<'a>, LineFault>
     ensures { Gives (λ script. script) result (script_meaning text.now) }
 {
     if is_too_long(text) {

@@ -33,7 +33,7 @@ use crate::script::significant::NumberedLine;
 use crate::script::start::{file_said, start};
 use crate::script::statement::{Statement, read_statement};
 use crate::script::version::Version;
-use crate::script::{ReadScript, LineFault};
+use crate::script::{LineFault, ReadScript};
 use pmp_core::{BATCH_EVENTS, Event, RegFile};
 
 /// Whether one of these has the name.

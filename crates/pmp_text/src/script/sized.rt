@@ -1,6 +1,6 @@
 //! Scripts of versions 1 and 2, as values of their own.
 
-ghost use Rattle.std.specs.Prelude.{◌≡◌, ◌<◌, [], IfOk, length, slice_index_or};
+ghost use Rattle.std.specs.Prelude.{◌≡◌, ◌<◌, ◌≤◌, [], IfOk, length, slice_index_or};
 ghost use Rattle.pmp_core.specs.declared.event.TheConstants.{BATCH_EVENTS};
 ghost use Rattle.pmp_text.specs.SizedScripts.{GivesSized, line_of, refusal_of_script, script_kind, sized};
 ghost use Rattle.pmp_text.specs.SizedScripts.{sized_meaning, unsized_fault};
@@ -184,6 +184,7 @@ pub fn unsized_fault(text: &[u8]) -> Option<ScriptFault>
 /// [`read_script_in`](crate::read_script_in) reads all three, into a log of the caller's.
 ///
 /// The script takes memory for its events; if there is none, `Memory` is returned instead of any later fault.
+#[tactic(auto, unfolding(crate::specs::SizedScripts::sized_meaning))]
 pub fn read_script(alloc: Global, text: &[u8]) -> Result<Script, ScriptFault>
     ensures { GivesSized result (sized_meaning text.now) }
 {

@@ -9,7 +9,7 @@ ghost use Rattle.pmp_text.specs.Traces.{row_fields, trace_meaning};
 use crate::moments::Moments;
 use crate::refusal::Refusal;
 use crate::trace::rows::{Place, RowReader};
-use crate::trace::{TraceRow, RowFault};
+use crate::trace::{RowFault, TraceRow};
 use std::alloc::Global;
 
 /// The greatest length of a trace, in bytes.
@@ -32,7 +32,11 @@ fn read_rows(alloc: Global, left: &mut RowReader<'_>) -> Result<Vec<TraceRow>, R
 /// Returns the rows of the trace that a text describes, for a script with these moments, else its first fault. The time
 /// is linear in the text, and only the rows and one record take memory: if they can't grow, `Memory` is returned
 /// instead of any later fault.
-pub fn read_trace_by(alloc: Global, text: &[u8], moments: &Moments<'_>) -> Result<Vec<TraceRow>, RowFault>
+pub fn read_trace_by(
+    alloc: Global,
+    text: &[u8],
+    moments: &Moments<'_>,
+) -> Result<Vec<TraceRow>, RowFault>
     ensures given { GivesRows (λ rows. map row_fields rows.items) result (trace_meaning moments.now text.now) }
     ensures ordered { IfOk result (λ rows. IsInOrder moments.now.publications 0 (afters (map row_fields rows.items))) }
 {

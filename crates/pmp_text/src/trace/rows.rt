@@ -15,7 +15,7 @@ use crate::refusal::Refusal;
 use crate::trace::plain::{behind_plain_header, plain_line};
 use crate::trace::records::Records;
 use crate::trace::row_fields::{RowFields, is_header};
-use crate::trace::{TraceRow, RowFault};
+use crate::trace::{RowFault, TraceRow};
 use std::alloc::Global;
 use std::marker::Model;
 
