@@ -160,7 +160,7 @@ impl ReadScript<'_> {
 }
 
 /// Returns why a text is no script of version 1 or 2 if its length or its version says so: `TooLong` for more than
-/// 1,048,576 bytes, `BadVersion` for version 3.
+/// [`MAX_SCRIPT`] bytes, `BadVersion` for version 3.
 pub fn unsized_fault(text: &[u8]) -> Option<ScriptFault>
     ensures { result ≡ unsized_fault text.now }
 {
