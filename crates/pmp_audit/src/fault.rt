@@ -7,7 +7,7 @@ ghost use Rattle.pmp_audit.specs.declared.fault.ReportFault.TheVariants as audit
 ghost use Rattle.pmp_audit.specs.declared.fault.ReportFault.TheVariants.{Memory, Output};
 
 use pmp_share::{Moved, ShareFault};
-use pmp_text::{OutputFault, Refusal, LineFault, RowFault};
+use pmp_text::{LineFault, OutputFault, Refusal, RowFault};
 use std::alloc::{AllocError, AllocFailed};
 use thiserror::Error;
 

@@ -14,7 +14,7 @@ use crate::long_audit::parts::report_parts;
 use crate::long_audit::reporting::report_and_cut;
 use crate::standing::Standing;
 use crate::trace_audit::AuditSummary;
-use pmp_text::{Cut, GrowingLog, Refusal, ReadScript, cut_piece, read_script_in};
+use pmp_text::{Cut, GrowingLog, ReadScript, Refusal, cut_piece, read_script_in};
 use std::alloc::Global;
 use std::io::{Read, Write};
 use std::thread::Threads;

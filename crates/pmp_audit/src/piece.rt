@@ -9,7 +9,7 @@ use crate::fault::ReportFault;
 use crate::replay::Replay;
 use crate::report::list_row;
 use crate::standing::Standing;
-use pmp_text::{RowReader, ReadScript};
+use pmp_text::{ReadScript, RowReader};
 use std::alloc::Global;
 
 /// The report of a piece, text by text, and where the next piece begins.

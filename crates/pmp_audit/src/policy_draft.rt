@@ -32,7 +32,11 @@ const HEADER: &[u8] = b"from,to,modes,kind,first,last,demand\n";
 /// The text is complete before its first byte is written, so every refusal but `Output` leaves the output untouched.
 #[tactic(auto, using(crate::proofs::WrittenAnswers::answer_rules))]
 #[inline(never)]
-pub fn policy_from<W: Write>(alloc: Global, script: &[u8], writer: &mut W) -> Result<(), ReportFault>
+pub fn policy_from<W: Write>(
+    alloc: Global,
+    script: &[u8],
+    writer: &mut W,
+) -> Result<(), ReportFault>
     ensures ok { IfOk result
         (IsWritten (DraftSays script.now) (W.contents writer.old) (W.contents writer.new)) }
     ensures err { IfErr result

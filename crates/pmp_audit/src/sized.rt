@@ -209,5 +209,11 @@ pub fn dump<W: Write>(
         (W.contents writer.old) (W.contents writer.new) (FileRefuses script.now (numbered_after after))) }
 {
     want_sized(script)?;
-    Ok(show(alloc, View::Registers, script, after.map(When::Number), writer)?)
+    Ok(show(
+        alloc,
+        View::Registers,
+        script,
+        after.map(When::Number),
+        writer,
+    )?)
 }

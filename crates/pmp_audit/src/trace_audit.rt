@@ -10,7 +10,7 @@ use crate::answer::write_texts;
 use crate::fault::ReportFault;
 use crate::piece::report_piece;
 use crate::standing::Standing;
-use pmp_text::{GrowingLog, MAX_TRACE, Refusal, TraceRow, ReadScript, read_script_in};
+use pmp_text::{GrowingLog, MAX_TRACE, ReadScript, Refusal, TraceRow, read_script_in};
 use std::alloc::Global;
 use std::io::Write;
 

@@ -17,7 +17,11 @@ pub struct AnswerRun {
 }
 
 /// Appends the rows of all moments, or a part of them.
-fn write_runs<S: Sink>(out: &mut S, script: &ReadScript<'_>, access: &Access) -> Result<(), NoMemory>
+fn write_runs<S: Sink>(
+    out: &mut S,
+    script: &ReadScript<'_>,
+    access: &Access,
+) -> Result<(), NoMemory>
     ensures ok { OnOk result (HistorySays script.now access.now (S.text out.old) (S.text out.new)) }
     ensures err { OnErr result (StartsWith (S.text out.new) (S.text out.old)) }
 {

@@ -88,7 +88,12 @@ fn rule_bits(file: &RegFile, entry: u8) -> RuleBits
 }
 
 /// Returns the line that last changed the low end of the entry's range, if another entry defines it.
-fn low_end_line(script: &ReadScript<'_>, done: u64, entry: u8, matching: AddressMatching) -> Option<u64>
+fn low_end_line(
+    script: &ReadScript<'_>,
+    done: u64,
+    entry: u8,
+    matching: AddressMatching,
+) -> Option<u64>
     requires within { done ≤ length script.now.batches }
     requires entry { entry < MAX_ENTRIES }
     requires matching { matching

@@ -13,7 +13,7 @@ use crate::open_between::add_open_between;
 use crate::told::Told;
 use pmp_core::RegFile;
 use pmp_map::{Run, RunMap};
-use pmp_text::{EventLog, NoMemory, ReadScript, LineFault, Sink, read_script_in};
+use pmp_text::{EventLog, LineFault, NoMemory, ReadScript, Sink, read_script_in};
 
 /// Returns the register file after all publications.
 fn end_of(script: &ReadScript<'_>) -> RegFile
@@ -81,7 +81,11 @@ impl<'a> Ended<'a> {
 }
 
 /// Appends the rows of a script's findings that aren't accepted, or a part of them, and returns the number of rows.
-fn write_told<S: Sink>(out: &mut S, script: &ReadScript<'_>, accepted: &[u8]) -> Result<usize, NoMemory>
+fn write_told<S: Sink>(
+    out: &mut S,
+    script: &ReadScript<'_>,
+    accepted: &[u8],
+) -> Result<usize, NoMemory>
     ensures ok { IfOk result (λ told. HasToldSome (AreFindings script.now)
         (so_far accepted.now (S.text out.old) 0) (so_far accepted.now (S.text out.new) told)) }
     ensures err { OnErr result (StartsWith (S.text out.new) (S.text out.old)) }

@@ -1,6 +1,6 @@
 //! An audit by several workers that pass a gate.
 
-use pmp_audit::{ReportFault, Gate, AuditSummary, audit_by_workers};
+use pmp_audit::{AuditSummary, Gate, ReportFault, audit_by_workers};
 use std::alloc::{AllocError, Global};
 use std::sync::Wait;
 use std::sync::atomic::{AtomicBool, AtomicU64, Ordering};

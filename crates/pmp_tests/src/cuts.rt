@@ -1,6 +1,6 @@
 //! A long audit of a trace that is cut at every limit.
 
-use pmp_audit::{ReportFault, AuditSummary, audit_long, audit_whole};
+use pmp_audit::{AuditSummary, ReportFault, audit_long, audit_whole};
 use pmp_text::{Refusal, RowFault};
 use std::alloc::Global;
 use std::thread::Threads;

@@ -22,8 +22,8 @@ use crate::outcome::Outcome;
 use crate::plan_answers::answer_plan;
 use crate::request::{Audit, Diff, Import, LongAudit, Policy, Request};
 use pmp_audit::{
-    OpenGate, PIECE, Side, audit_by_workers, audit_long, audit_whole, check_after, check_policy, diff, explain,
-    lint, policy_from, show, writes,
+    OpenGate, PIECE, Side, audit_by_workers, audit_long, audit_whole, check_after, check_policy,
+    diff, explain, lint, policy_from, show, writes,
 };
 use pmp_import::{Given, import, survey_log};
 use pmp_plan::write_plan_of;

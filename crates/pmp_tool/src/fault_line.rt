@@ -17,7 +17,7 @@ use pmp_core::AccessFault;
 use pmp_import::ImportFault;
 use pmp_names::{HART_NAME, NamesFault};
 use pmp_plan::PlanFault;
-use pmp_text::{OutputFault, Refusal, LineFault, RowFault, write_out};
+use pmp_text::{LineFault, OutputFault, Refusal, RowFault, write_out};
 use std::fmt;
 use std::fmt::Write as TextWrite;
 use std::io::Write;

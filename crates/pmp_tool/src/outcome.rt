@@ -7,7 +7,7 @@ ghost use Rattle.pmp_tool.specs.CommandAnswers.{outcome_status};
 
 use crate::note::Note;
 use crate::request::Check;
-use pmp_audit::{PolicySummary, AuditSummary, WriteSummary};
+use pmp_audit::{AuditSummary, PolicySummary, WriteSummary};
 use pmp_core::Decision;
 
 /// The exit status if texts and lists are written, an answer is the expected one, all accesses are allowed, a policy

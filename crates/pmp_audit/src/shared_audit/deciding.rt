@@ -17,7 +17,7 @@ use crate::fault::ReportFault;
 use crate::gate::Gate;
 use pmp_core::{Decision, Event};
 use pmp_share::{Batch, Checker, Publisher, ShareFault, start_from};
-use pmp_text::{TraceRow, ReadScript};
+use pmp_text::{ReadScript, TraceRow};
 use std::alloc::Global;
 use std::sync::Wait;
 use std::thread::Threads;
