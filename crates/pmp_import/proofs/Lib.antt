@@ -1,3 +1,4 @@
+pub mod FrontTexts
 pub mod KnownLogs
 pub mod LogTexts
 pub mod Readings

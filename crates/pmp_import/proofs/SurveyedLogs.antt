@@ -20,7 +20,6 @@ use Rattle.pmp_import.specs.Formats.{line_said}
 use Rattle.pmp_import.specs.Imported
 use Rattle.pmp_import.specs.Imported.{at, beginning, foreign, imported, imported_from, is_of_hart, is_read}
 use Rattle.pmp_import.specs.Imported.{line_fault, said_text, unless, with_front}
-use Rattle.pmp_import.specs.Surveys
 use Rattle.pmp_import.specs.Surveys.{behind_found, behind_line, first_line, given_unless, hart_of, is_own}
 use Rattle.pmp_import.specs.Surveys.{nothing_found, survey_fault, surveyed, surveyed_from, with_told}
 use Rattle.pmp_import.specs.Laws.{SurveyedLaw}

@@ -211,6 +211,14 @@ imported_from given walk (line ∷ more) = elim (line_of given walk line) [
   | Err refusal ↦ Err (at walk.line refusal)
 ]
 
+-- what these lines give, up to the first one at fault
+abbrev pub lines_text : Given → Walk → List (List ℕ) → List ℕ
+lines_text given walk [] = []
+lines_text given walk (line ∷ more) = elim (line_of given walk line) [
+  | Ok said ↦ said_text given walk said ++ lines_text given (behind_said given walk said) more
+  | Err refusal ↦ []
+]
+
 -- before the first line
 abbrev pub beginning : Walk
 beginning = record { line = 1; reset = 1; pending = 0; is_used = false; is_found = false; shown = 0 }
@@ -218,3 +226,7 @@ beginning = record { line = 1; reset = 1; pending = 0; is_used = false; is_found
 -- the script of a log with these lines
 abbrev pub imported : Given → List (List ℕ) → Result (List ℕ) ImportFault
 imported given lines = with_front (head_text given) (imported_from given beginning lines)
+
+-- what the first lines of a log give: the head, and the script lines for each, up to the first one at fault
+abbrev pub front_text : Given → (front : List (List ℕ)) → List ℕ
+front_text given front = head_text given ++ lines_text given beginning front

@@ -1,16 +1,18 @@
 -- A log of any length from a reader: what it has, and its script, which is written.
-use Rattle.std.specs.Prelude.{◌≡◌, ◌⊎◌, ℕ, ◌-◌, ◌^◌, ◌≤◌, List, ◌++◌, length, Option, Result, Ok, Err, IfSome, false}
+use Rattle.std.specs.Prelude.{◌≡◌, ◌⊎◌, ℕ, ◌-◌, ◌^◌, ◌≤◌, List, [], ◌∷◌, ◌++◌, length, Option, Result, Ok, Err, IfSome}
+use Rattle.std.specs.Prelude.{false}
 use Rattle.std.specs.List.{list_any}
-use Rattle.std.specs.Io.KnownBytes.{Appends}
+use Rattle.std.specs.Io.KnownBytes.{Appends, Keeps}
 use Rattle.pmp_text.specs.declared.refusal.Refusal.TheVariants.{Input, Memory, Output, TooLong}
+use Rattle.pmp_text.specs.Bytes.{AppendsBeginning}
 use Rattle.pmp_text.specs.Lines.{is_line_feed, lines}
 use Rattle.pmp_import.specs.declared.fault.ImportFault.{ImportFault}
 use Rattle.pmp_import.specs.declared.format.Format.{Format}
 use Rattle.pmp_import.specs.declared.given.Given.{Given}
 use Rattle.pmp_import.specs.declared.survey.Survey.{Survey}
 use Rattle.pmp_import.specs.declared.whole_log.TheConstants.{MOST_LINES}
-use Rattle.pmp_import.specs.Imported.{at, imported}
-use Rattle.pmp_import.specs.Surveys.{surveyed}
+use Rattle.pmp_import.specs.Imported.{at, front_text, imported}
+use Rattle.pmp_import.specs.Surveys.{one_more, surveyed}
 
 -- the log is what the reader had, as far as known
 abbrev pub IsLog : (had : Option (List ℕ)) → (log : List ℕ) → Type 0
@@ -18,15 +20,33 @@ IsLog had log = IfSome had (λ those. log ≡ those)
 
 -- ---- stops
 
--- a line has at least `most` bytes, or the log too many to count
-abbrev pub IsTooLong : (most : ℕ) → (log : List ℕ) → Type 0
-IsTooLong most log = ((front line behind : List ℕ) × (log ≡ front ++ (line ++ behind))
-    × (list_any is_line_feed line ≡ false) × (most ≤ length line)) ⊎ (2 ^ 64 - 1 ≤ length log)
+-- the text is whole lines: it is empty, or ends with LF
+abbrev pub AreWholeLines : List ℕ → Type 0
+AreWholeLines text = (text ≡ []) ⊎ ((before : List ℕ) × (text ≡ before ++ 10 ∷ []))
 
--- why a reading with this result stops
-pub data Stops {X : Type 0} (comes_to : Result X ImportFault) (log : List ℕ) : ImportFault → Type 0 where
-  refused : (fault : ImportFault) → comes_to ≡ Err fault → Stops comes_to log fault
-  too_long : (fault : ImportFault) → fault.kind ≡ TooLong → IsTooLong MOST_LINES log → Stops comes_to log fault
+-- none of these lines is at fault
+abbrev pub AreFine : {X : Type 0} → (comes_to : List (List ℕ) → Result X ImportFault) → List (List ℕ) → Type 0
+AreFine comes_to lines = (fault : ImportFault) → comes_to lines ≡ Err fault → fault.line ≡ 0
+
+-- the line with this number has at least `most` bytes, and none before it is at fault
+pub record IsTooLong {X : Type 0} (comes_to : List (List ℕ) → Result X ImportFault) (most : ℕ) (log : List ℕ) (number : ℕ)
+    : Type 0
+  where
+    pub front : List ℕ
+    pub line : List ℕ
+    pub behind : List ℕ
+    pub log_is : log ≡ front ++ (line ++ behind)
+    pub whole : AreWholeLines front
+    pub fine : AreFine comes_to (lines front)
+    pub number_is : number ≡ one_more (length (lines front))
+    pub unended : list_any is_line_feed line ≡ false
+    pub long : most ≤ length line
+
+-- why a reading stops whose lines come to this
+pub data Stops {X : Type 0} (comes_to : List (List ℕ) → Result X ImportFault) (log : List ℕ) : ImportFault → Type 0 where
+  refused : (fault : ImportFault) → comes_to (lines log) ≡ Err fault → Stops comes_to log fault
+  too_long : (number : ℕ) → IsTooLong comes_to MOST_LINES log number → Stops comes_to log (at number TooLong)
+  uncounted : (number : ℕ) → 2 ^ 64 - 1 ≤ length log → Stops comes_to log (at number TooLong)
   no_memory : Stops comes_to log (at 0 Memory)
   no_input : Stops comes_to log (at 0 Input)
   no_output : Stops comes_to log (at 0 Output)
@@ -41,15 +61,29 @@ pub record IsImported (given : Given) (had : Option (List ℕ)) (before after : 
   pub gives : imported given (lines log) ≡ Ok script
   pub written : Appends before after script
 
+-- the text is what the first lines of the log give
+pub record IsFrontOf (given : Given) (log text : List ℕ) : Type 0 where
+  pub front : List (List ℕ)
+  pub behind : List (List ℕ)
+  pub log_has : lines log ≡ front ++ behind
+  pub gives : text ≡ front_text given front
+
+-- nothing was written, or what the first lines of the log give; if the output failed, a prefix of that or of the script
+pub data WroteFront (given : Given) (log : List ℕ) (before after : Option (List ℕ)) : ImportFault → Type 0 where
+  nothing : (fault : ImportFault) → Keeps before after → WroteFront given log before after fault
+  first_lines : (fault : ImportFault) (text : List ℕ) → IsFrontOf given log text → Appends before after text
+      → WroteFront given log before after fault
+  cut_off : (text : List ℕ) → IsFrontOf given log text ⊎ (imported given (lines log) ≡ Ok text)
+      → AppendsBeginning before after text → WroteFront given log before after (at 0 Output)
+
 -- at most a part of it was written
 pub record CantImport (given : Given) (had : Option (List ℕ)) (before after : Option (List ℕ)) (fault : ImportFault)
     : Type 0
   where
     pub log : List ℕ
     pub is_log : IsLog had log
-    pub stops : Stops (imported given (lines log)) log fault
-    pub part : List ℕ
-    pub written : Appends before after part
+    pub stops : Stops (imported given) log fault
+    pub wrote : WroteFront given log before after fault
 
 -- ---- the survey
 
@@ -62,4 +96,4 @@ pub record IsSurveyed (format : Format) (hart : Option ℕ) (had : Option (List 
 pub record CantSurvey (format : Format) (hart : Option ℕ) (had : Option (List ℕ)) (fault : ImportFault) : Type 0 where
   pub log : List ℕ
   pub is_log : IsLog had log
-  pub stops : Stops (surveyed format hart (lines log)) log fault
+  pub stops : Stops (surveyed format hart) log fault

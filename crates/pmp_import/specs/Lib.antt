@@ -8,7 +8,7 @@ pub mod Imported
 pub mod Imports
 pub mod Surveys
 pub mod LogTexts
--- A law of these definitions, proved.
+-- Laws of these definitions, proved.
 pub mod Laws
 -- The rest: the steps of a reading, used only by private contracts.
 pub mod Steps

@@ -1,13 +1,18 @@
 -- A reading's steps, used only by private contracts.
-use Rattle.std.specs.Prelude.{◌≡◌, ◌⊎◌, ℕ, List, [], ◌++◌, Ok, Err}
+use Rattle.std.specs.Prelude.{◌≡◌, ◌⊎◌, ℕ, ◌+◌, List, [], ◌++◌, length, Ok, Err}
 use Rattle.pmp_text.specs.declared.refusal.Refusal.TheVariants.{Memory}
 use Rattle.pmp_import.specs.declared.fault.ImportFault.{ImportFault}
 use Rattle.pmp_import.specs.declared.format.Format.{Format}
 use Rattle.pmp_import.specs.declared.given.Given.{Given}
 use Rattle.pmp_import.specs.declared.given.Walk.{Walk}
 use Rattle.pmp_import.specs.declared.survey.Survey.{Survey}
-use Rattle.pmp_import.specs.Imported.{at, imported_from, with_front}
-use Rattle.pmp_import.specs.Surveys.{surveyed_from}
+use Rattle.pmp_import.specs.Imported.{at, imported, imported_from, lines_text, with_front}
+use Rattle.pmp_import.specs.Surveys.{one_more, surveyed_from}
+
+-- a text was appended, perhaps an empty one
+pub record HasGrown (before after : List ℕ) : Type 0 where
+  pub more : List ℕ
+  pub grown : after ≡ before ++ more
 
 -- these lines were read, and their text was appended
 pub record GoesOn (given : Given) (old new : Walk) (lines : List (List ℕ)) (before after : List ℕ) : Type 0 where
@@ -15,6 +20,8 @@ pub record GoesOn (given : Given) (old new : Walk) (lines : List (List ℕ)) (be
   pub appended : after ≡ before ++ text
   pub goes_on : (more : List (List ℕ)) → imported_from given old (lines ++ more)
       ≡ with_front text (imported_from given new more)
+  pub gives : (more : List (List ℕ)) → lines_text given old (lines ++ more) ≡ text ++ lines_text given new more
+  pub counted : (count : ℕ) → old.line ≡ one_more count → new.line ≡ one_more (count + length lines)
 
 -- one of these lines is at fault, or memory ran out
 abbrev pub StopsAt : (given : Given) → (walk : Walk) → (lines : List (List ℕ)) → ImportFault → Type 0
@@ -31,11 +38,22 @@ pub record EndsWith (given : Given) (walk : Walk) (before after : List ℕ) : Ty
 abbrev pub StopsAtEnd : (given : Given) → (walk : Walk) → ImportFault → Type 0
 StopsAtEnd given walk fault = (fault ≡ at 0 Memory) ⊎ (imported_from given walk [] ≡ Err fault)
 
+-- the script of a log with these lines was appended
+pub record AppendsScript (given : Given) (lines : List (List ℕ)) (before after : List ℕ) : Type 0 where
+  pub script : List ℕ
+  pub gives : imported given lines ≡ Ok script
+  pub appended : after ≡ before ++ script
+
+-- they give none, or memory ran out
+abbrev pub HasNoScript : (given : Given) → (lines : List (List ℕ)) → ImportFault → Type 0
+HasNoScript given lines fault = (fault ≡ at 0 Memory) ⊎ (imported given lines ≡ Err fault)
+
 -- ---- the survey
 
 -- these lines were surveyed
 pub record FindsOn (format : Format) (old new : Survey) (lines : List (List ℕ)) : Type 0 where
   pub finds_on : (more : List (List ℕ)) → surveyed_from format old (lines ++ more) ≡ surveyed_from format new more
+  pub counted : (count : ℕ) → old.line ≡ one_more count → new.line ≡ one_more (count + length lines)
 
 -- one of these lines is at fault
 abbrev pub FindsFault : (format : Format) → Survey → (lines : List (List ℕ)) → ImportFault → Type 0

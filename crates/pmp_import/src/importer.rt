@@ -4,7 +4,7 @@ ghost use Rattle.std.specs.Prelude.{◌≡◌, ◌⊎◌, ◌++◌, ◌∷◌, [
 ghost use Rattle.pmp_text.specs.declared.refusal.Refusal.TheVariants.{Memory};
 ghost use Rattle.pmp_text.specs.Lines.{lines};
 ghost use Rattle.pmp_import.specs.Imported.{at, beginning, foreign, head_text, line_fault, line_of};
-ghost use Rattle.pmp_import.specs.Steps.{EndsWith, GoesOn, StopsAt, StopsAtEnd};
+ghost use Rattle.pmp_import.specs.Steps.{EndsWith, GoesOn, HasGrown, StopsAt, StopsAtEnd};
 
 use crate::fault::ImportFault;
 use crate::given::{Given, Walk};
@@ -41,11 +41,13 @@ impl Importer {
     }
 
     /// Appends the result of a line, or nothing.
+    #[tactic(auto, using(crate::proofs::Readings::goes_line))]
     pub fn take_line<S: Sink>(&mut self, out: &mut S, line: &[u8]) -> Result<(), ImportFault>
         ensures given { self.new.given ≡ self.old.given }
         ensures ok { OnOk result (GoesOn self.old.given self.old.walk self.new.walk (line.now ∷ [])
             (S.text out.old) (S.text out.new)) }
         ensures err { IfErr result (StopsAt self.old.given self.old.walk (line.now ∷ [])) }
+        ensures kept { OnErr result (S.text out.new ≡ S.text out.old) }
     {
         let said = self.read_line(line)?;
         let Importer { given, walk } = *self;
@@ -90,6 +92,7 @@ impl Importer {
         ensures ok { OnOk result (GoesOn self.old.given self.old.walk self.new.walk (lines text.now)
             (S.text out.old) (S.text out.new)) }
         ensures err { IfErr result (StopsAt self.old.given self.old.walk (lines text.now)) }
+        ensures grown { OnErr result (HasGrown (S.text out.old) (S.text out.new)) }
     {
         let mut rest = text;
         while let Some((line, behind)) = split_first_line(rest) {
@@ -103,6 +106,7 @@ impl Importer {
     pub fn end<S: Sink>(&self, out: &mut S) -> Result<(), ImportFault>
         ensures ok { OnOk result (EndsWith self.now.given self.now.walk (S.text out.old) (S.text out.new)) }
         ensures err { IfErr result (StopsAtEnd self.now.given self.now.walk) }
+        ensures kept { OnErr result (S.text out.new ≡ S.text out.old) }
     {
         if !self.walk.is_found {
             return Err(ImportFault::at(0, Refusal::NoHart));

@@ -1,8 +1,9 @@
 //! A log that is available as a text, and its script.
 
-ghost use Rattle.std.specs.Prelude.{◌≡◌, IfErr, OnOk};
+ghost use Rattle.std.specs.Prelude.{◌≡◌, IfErr, OnErr, OnOk};
 ghost use Rattle.pmp_text.specs.Lines.{lines};
 ghost use Rattle.pmp_import.specs.LogTexts.{GivesNone, IsScriptOf, given_by};
+ghost use Rattle.pmp_import.specs.Steps.{AppendsScript, HasGrown, HasNoScript};
 
 use crate::fault::ImportFault;
 use crate::format::Format;
@@ -23,9 +24,8 @@ fn given_by(format: Format, options: Options, log: &[u8]) -> Result<Given, Impor
     }
 }
 
-/// Appends the script of a log, which is read twice: what the options leave open is guessed from the whole log.
-///
-/// If memory runs out, a part of the script may have been appended.
+/// Appends the script of a log, which is read twice: what the options leave open is guessed from the whole log. If it is
+/// refused, nothing is appended.
 pub fn append_import<S: Sink>(
     format: Format,
     options: Options,
@@ -34,8 +34,23 @@ pub fn append_import<S: Sink>(
 ) -> Result<(), ImportFault>
     ensures ok { OnOk result (IsScriptOf format options (lines log.now) (S.text out.old) (S.text out.new)) }
     ensures err { IfErr result (GivesNone format options (lines log.now)) }
+    ensures kept { OnErr result (S.text out.new ≡ S.text out.old) }
 {
     let given = given_by(format, options, log)?;
+    let before = out.position();
+    let appended = append_script(given, log, out);
+    if appended.is_err() {
+        out.go_back(before);
+    }
+    appended
+}
+
+/// Appends the script that a log has with these settings, or a part of it.
+fn append_script<S: Sink>(given: Given, log: &[u8], out: &mut S) -> Result<(), ImportFault>
+    ensures ok { OnOk result (AppendsScript given (lines log.now) (S.text out.old) (S.text out.new)) }
+    ensures err { IfErr result (HasNoScript given (lines log.now)) }
+    ensures grown { OnErr result (HasGrown (S.text out.old) (S.text out.new)) }
+{
     let mut importer = Importer::new(given);
     importer.begin(out)?;
     importer.take_lines(out, log)?;

@@ -137,6 +137,7 @@ impl Survey {
         }
     }
 
+    #[tactic(auto, using(crate::proofs::Readings::finds_line))]
     fn take_line(&mut self, format: Format, line: &[u8]) -> Result<(), ImportFault>
         ensures ok { OnOk result (FindsOn format self.old self.new (line.now ∷ [])) }
         ensures err { IfErr result (FindsFault format self.old (line.now ∷ [])) }

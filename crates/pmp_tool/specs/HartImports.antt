@@ -52,7 +52,7 @@ pub record IsFound (known : Option (List ℕ)) (format : Format) (survey : Surve
 pub data IsUnfound (known : Option (List ℕ)) (format : Format) : Failure → Type 0 where
   unopened : (fault : Refusal) → CantBeOpened fault → IsUnfound known format (refused fault)
   unsurveyed : (log : List ℕ) (fault : ImportFault) → AreBytesOf known log
-      → Stops (surveyed format None (lines log)) log fault → IsUnfound known format (unimported fault)
+      → Stops (surveyed format None) log fault → IsUnfound known format (unimported fault)
 
 module _ (paths : Paths) (command : Command) (import : Import) where
   -- the text is the output of this hart's import

@@ -2,13 +2,13 @@
 use Rattle.std.specs.Prelude.{◌≡◌, ℕ, List, length, Bool, ◌&&◌, nat_le, Option, Some, None, Result, Ok, Err, true}
 use Rattle.std.specs.Prelude.{false, ◌<◌, ⊤, option_map}
 use Rattle.std.specs.Prelude.{codes, bytes_eq, if◌then◌else◌}
-use Rattle.std.specs.Io.KnownBytes.{Appends, Keeps}
+use Rattle.std.specs.Io.KnownBytes.{Keeps}
 use Rattle.clap.specs.Words.{Text}
 use Rattle.pmp_import.specs.declared.fault.ImportFault.{ImportFault}
 use Rattle.pmp_import.specs.declared.given.Given.{Given}
 use Rattle.pmp_import.specs.declared.survey.Survey.{Survey}
 use Rattle.pmp_import.specs.Imported.{imported}
-use Rattle.pmp_import.specs.Imports.{Stops}
+use Rattle.pmp_import.specs.Imports.{Stops, WroteFront}
 use Rattle.pmp_import.specs.Surveys.{given_alone, given_for, surveyed}
 use Rattle.pmp_core.specs.RegisterFile.{RegisterFile, reset_file}
 use Rattle.pmp_text.specs.Lines.{lines}
@@ -103,15 +103,15 @@ pub data ImportFails (known : Option (List ℕ)) (import : Import) (before after
     unopened : (fault : Refusal) → CantBeOpened fault → Keeps before after
         → ImportFails known import before after (refused fault)
     unsurveyed : (seen : List ℕ) (fault : ImportFault) → AreBytesOf known seen
-        → Stops (surveyed import.format import.options.hart (lines seen)) seen fault → Keeps before after
+        → Stops (surveyed import.format import.options.hart) seen fault → Keeps before after
         → ImportFails known import before after (unimported fault)
     ungiven : (seen : List ℕ) (survey : Survey) (fault : ImportFault) → AreBytesOf known seen
         → surveyed import.format import.options.hart (lines seen) ≡ Ok survey
         → given_for import.format import.options survey ≡ Err fault → Keeps before after
         → ImportFails known import before after (unimported fault)
     unwritten : (given : Given) (note : Note) (log : List ℕ) (fault : ImportFault) → IsGiven known import given note
-        → AreBytesOf known log → Stops (imported given (lines log)) log fault
-        → (part : List ℕ) → Appends before after part → ImportFails known import before after (unimported fault)
+        → AreBytesOf known log → Stops (imported given) log fault → WroteFront given log before after fault
+        → ImportFails known import before after (unimported fault)
 
 -- ---- plans
 

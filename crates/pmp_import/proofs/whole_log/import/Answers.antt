@@ -1,11 +1,10 @@
 use Rattle.std.proofs.Common.{rules, ◌≡◌, Err, ◌∙◌, arith, subst}
 use Rattle.pmp_text.specs.declared.refusal.Refusal.TheVariants.{Memory, Output}
 use Rattle.pmp_import.specs.declared.given.Given.{Given}
-use Rattle.pmp_import.specs.Imported.{at, imported}
+use Rattle.pmp_import.specs.Imported.{at}
 use Rattle.pmp_import.specs.Steps.{StopsAtEnd}
-use Rattle.pmp_import.proofs.KnownLogs.{count_stops, cut_stops}
-use Rattle.pmp_import.proofs.WholeLogs.{cant_begin, cant_write, ends_well, going_begins, goes_on, stops_at}
-use Rattle.pmp_import.proofs.WholeLogs.{stops_at_end, stops_at_last, stops_here}
+use Rattle.pmp_import.proofs.WholeLogs.{cant_begin, cant_write, cant_write_last, ends_well, going_begins, goes_on, stops_at}
+use Rattle.pmp_import.proofs.WholeLogs.{stops_at_count, stops_at_cut, stops_at_end, stops_at_last}
 use Rattle.pmp_import.proofs.whole_log.import.Goals as goal
 
 pub returns-in_err-begin-clause-err : goal.returns-in_err-begin-clause-err
@@ -35,9 +34,12 @@ returns-in_err-take_lines-in-Ok-Front-clause-err g c =
 
 pub returns-in_err-write_out-in-Ok-Front-clause-err : goal.returns-in_err-write_out-in-Ok-Front-clause-err
 returns-in_err-write_out-in-Ok-Front-clause-err g c =
+    let (going, same) = c.loop-count.invariant in
+    let cut = rw c.in-Ok-Front.field-0-is at c.in-Ok-Front.ensures in
+    let reads = rw (same, c.deref.ensures.value) at c.in_ok-take_lines-in-Ok-Front.ensures.ok in
+    let wrote = rw c.deref-in-Ok-Front.ensures.value at c.in_err-write_out-in-Ok-Front.ensures.err in
     let stopped : c.from_residual-in_err-write_out-in-Ok-Front.result ≡ Err (at 0 Output) = search rules in
-    let (front, rest, is, wrote) = c.in_err-write_out-in-Ok-Front.ensures.err in
-    rw stopped (cant_write c.loop-count.invariant.0 _ front wrote)
+    rw stopped (cant_write going c.in-Ok-Front.piece.items cut _ reads wrote)
 
 pub loop-count-preserved : goal.loop-count-preserved
 loop-count-preserved g c =
@@ -74,9 +76,14 @@ returns-in_err-end-in-Ok-Last-clause-err g c =
 
 pub returns-in_err-write_out-in-Ok-Last-clause-err : goal.returns-in_err-write_out-in-Ok-Last-clause-err
 returns-in_err-write_out-in-Ok-Last-clause-err g c =
+    let (going, same) = c.loop-count.invariant in
+    let cut = rw c.in-Ok-Last.field-0-is at c.in-Ok-Last.ensures in
+    let reads = rw (same, c.deref-in-Ok-Last.ensures.value) at c.in_ok-take_lines-in-Ok-Last.ensures.ok in
+    let given : c.take_lines-in-Ok-Last.new.self.given ≡ c.args.given = c.take_lines-in-Ok-Last.ensures.given ∙ same in
+    let end = rw given at c.in_ok-end-in-Ok-Last.ensures.ok in
+    let wrote = rw c.deref-in-Ok-Last-2.ensures.value at c.in_err-write_out-in-Ok-Last.ensures.err in
     let stopped : c.from_residual-in_err-write_out-in-Ok-Last.result ≡ Err (at 0 Output) = search rules in
-    let (front, rest, is, wrote) = c.in_err-write_out-in-Ok-Last.ensures.err in
-    rw stopped (cant_write c.loop-count.invariant.0 _ front wrote)
+    rw stopped (cant_write_last going c.in-Ok-Last.piece.items cut reads _ end wrote)
 
 pub returns-in-Ok-Last-clause-ok : goal.returns-in-Ok-Last-clause-ok
 returns-in-Ok-Last-clause-ok g c =
@@ -91,14 +98,8 @@ returns-in-Ok-Last-clause-ok g c =
 -- ---- no lines
 
 pub returns-in-Err-clause-err : goal.returns-in-Err-clause-err
-returns-in-Err-clause-err g c =
-    let going = c.loop-count.invariant.0 in
-    rw (c.stop.ensures, c.from.ensures) (stops_here going _ (cut_stops going.taken (imported c.args.given)
-    (g.R.Read.remaining c.cut_lines.new.reader) c.loop-count.importer.walk.line c.in-Err.fault
-    c.cut_lines.new.held.items c.in-Err.ensures))
+returns-in-Err-clause-err g c = rw (c.stop.ensures, c.from.ensures) (stops_at_cut c.loop-count.invariant.0
+    (g.R.Read.remaining c.cut_lines.new.reader) c.in-Err.fault c.cut_lines.new.held.items c.in-Err.ensures)
 
 pub returns-clause-err : goal.returns-clause-err
-returns-clause-err g c =
-    let going = c.loop-count.invariant.0 in
-    rw c.stop-2.ensures (stops_here going _ (count_stops going.taken (imported c.args.given)
-    c.loop-count.importer.walk.line (omega arith)))
+returns-clause-err g c = rw c.stop-2.ensures (stops_at_count c.loop-count.invariant.0 (omega arith))

@@ -1,7 +1,6 @@
 use Rattle.std.proofs.Common.{rules, ◌≡◌, Err, arith}
-use Rattle.pmp_import.specs.Surveys.{surveyed}
-use Rattle.pmp_import.proofs.KnownLogs.{count_stops, cut_stops}
-use Rattle.pmp_import.proofs.WholeSurveys.{cant_survey, fault_at, fault_at_last, found_all, looking_begins, looks_on}
+use Rattle.pmp_import.proofs.WholeSurveys.{count_fault, cut_fault, fault_at, fault_at_last, found_all, looking_begins}
+use Rattle.pmp_import.proofs.WholeSurveys.{looks_on}
 use Rattle.pmp_import.proofs.whole_log.survey_log.Goals as goal
 
 pub loop-count-init : goal.loop-count-init
@@ -46,11 +45,8 @@ returns-in-Ok-Last-clause-ok g c =
 -- ---- no lines
 
 pub returns-in-Err-clause-err : goal.returns-in-Err-clause-err
-returns-in-Err-clause-err g c =
-    rw (c.stop.ensures, c.from.ensures) (cant_survey (cut_stops c.loop-count.invariant.taken (surveyed c.args.format c.args.hart)
-    (g.R.Read.remaining c.cut_lines.new.reader) c.loop-count.survey.line c.in-Err.fault c.cut_lines.new.held.items
-    c.in-Err.ensures))
+returns-in-Err-clause-err g c = rw (c.stop.ensures, c.from.ensures) (cut_fault c.loop-count.invariant
+    (g.R.Read.remaining c.cut_lines.new.reader) c.in-Err.fault c.cut_lines.new.held.items c.in-Err.ensures)
 
 pub returns-clause-err : goal.returns-clause-err
-returns-clause-err g c = rw c.stop-2.ensures (cant_survey (count_stops c.loop-count.invariant.taken
-    (surveyed c.args.format c.args.hart) c.loop-count.survey.line (omega arith)))
+returns-clause-err g c = rw c.stop-2.ensures (count_fault c.loop-count.invariant (omega arith))

@@ -17,7 +17,7 @@ returns-in_err-import-clause-err g c = λ script.
     let cant = c.in_err-import.ensures.err in
     let opened = rw c.in_ok-given.ensures.paths at c.in_ok-log.ensures.opened in
     rw (p.1, p.2) (unwritten c.in_ok-given.given c.in_ok-given.note cant.log c.in_err-import.field-0.0
-    c.in_ok-given.ensures.ok (bytes_given _ _ cant.log opened cant.is_log) cant.stops cant.part cant.written)
+    c.in_ok-given.ensures.ok (bytes_given _ _ cant.log opened cant.is_log) cant.stops cant.wrote)
 
 pub returns-clause-ok : goal.returns-clause-ok
 returns-clause-ok g c = λ script.
