@@ -10,7 +10,6 @@ use Rattle.pmp_text.specs.declared.script.LineFault.{LineFault}
 use Rattle.pmp_text.specs.declared.input.InputFault.{InputFault}
 use Rattle.pmp_text.specs.declared.input.InputFault.TheVariants as input
 use Rattle.pmp_text.specs.Inputs.{refusal_of_input}
-use Rattle.pmp_text.specs.declared.refusal.Refusal.{Refusal}
 use Rattle.pmp_text.specs.declared.refusal.Refusal.TheVariants as kinds
 use Rattle.pmp_text.specs.declared.refusal.Refusal.TheVariants.{BadHeader}
 use Rattle.pmp_text.specs.Bytes.{AppendsBeginning}

@@ -104,9 +104,9 @@ returns-in-Ok-Last-clause-err g c =
 pub returns-in-Err-clause-err : goal.returns-in-Err-clause-err
 returns-in-Err-clause-err g c = λ text means.
     let cut = rw c.in-Err.is at c.loop-count.invariant.3 in
-    rw (c.from.ensures, c.at_row.ensures, c.whole.ensures, c.from-2.ensures) (cut_stops c.loop-count.invariant.2 c.args.limit (g.R.Read.remaining c.loop-count.reader)
+    rw (c.from-in-Err.ensures, c.at_row.ensures, c.whole.ensures, c.from.ensures) (cut_stops c.loop-count.invariant.2 c.args.limit (g.R.Read.remaining c.loop-count.reader)
     c.loop-count.held.items c.in-Err.fault cut text means)
 
 pub returns-clause-err : goal.returns-clause-err
-returns-clause-err g c = λ text means. rw (c.from-3.ensures, c.at_row-2.ensures, c.whole-2.ensures) (no_turn c.loop-count.invariant.2 c.args.limit
+returns-clause-err g c = λ text means. rw (c.from-2.ensures, c.at_row-2.ensures, c.whole-2.ensures) (no_turn c.loop-count.invariant.2 c.args.limit
     (g.R.Read.remaining c.loop-count.reader) (omega arith) text means)
