@@ -1,17 +1,20 @@
 -- What the owners of a byte say of it is what accesses to it find.
-use Rattle.std.proofs.Common.{rules, ◌≡◌, ◌∙◌, sym, ap, subst, ℕ, ◌<◌, Bool, true, false, not, Option, refl}
-use Rattle.std.proofs.lemmas.Bool.{not-true}
+use Rattle.std.proofs.Common.{rules, ◌≡◌, ◌∙◌, sym, ap, arith, subst, ℕ, ◌<◌, ◌≤◌, Bool, true, false, inl, inr}
+use Rattle.std.proofs.Common.{IfSome, List, Option, None, Some, fold, length}
+use Rattle.std.proofs.lemmas.Bool.{cases_lt, not-true}
+use Rattle.std.proofs.lemmas.List.{take_all}
 use Rattle.pmp_core.specs.declared.access.Kind.{Kind}
 use Rattle.pmp_core.specs.declared.access.Kind.TheVariants.{Fetch, Load, Store}
 use Rattle.pmp_core.specs.declared.access.Mode.{Mode}
 use Rattle.pmp_core.specs.declared.access.Mode.TheVariants.{M, S, U}
 use Rattle.pmp_core.specs.declared.access.TheConstants.{ADDRESS_LIMIT}
+use Rattle.pmp_core.specs.declared.event.Event.{Event}
 use Rattle.pmp_core.specs.declared.perms.Perms.{Perms}
-use Rattle.pmp_core.specs.Decision.{IsOwner}
 use Rattle.pmp_core.specs.RegisterFile.{RegisterFile}
+use Rattle.pmp_core.specs.RegisterWrite.{step}
 use Rattle.pmp_core.specs.Rights.{Rights, allows, perms_of}
 use Rattle.pmp_map.specs.declared.mode_rights.ModeRights.{ModeRights}
-use Rattle.pmp_map.specs.Answers.{kept_rights, owned_rights, rights_by}
+use Rattle.pmp_map.specs.Answers.{kept_rights, owned_rights}
 use Rattle.pmp_map.specs.RightsRuns.{HasRights}
 use Rattle.pmp_map.specs.OpenBytes.{IsAnswered}
 use Rattle.pmp_map.proofs.KeptRights.{rights_kept}
@@ -19,7 +22,7 @@ use Rattle.pmp_map.proofs.OpenBytes.{answer_by_owner, open_byte}
 use Rattle.pmp_text.specs.Changes.{has_right}
 use Rattle.pmp_plan.specs.declared.aim.Watch.{Watch}
 use Rattle.pmp_plan.specs.declared.passing.Three.{Three}
-use Rattle.pmp_plan.specs.Routes.{StaysAs, runs}
+use Rattle.pmp_plan.specs.Routes.{IsSafe, StaysAs, runs}
 use Rattle.pmp_plan.specs.Steps.{HaveRights, KindStays, PermsStay, RightsStay, of_mode}
 
 right_is_bit : (rights : Rights) (kind : Kind) → has_right (perms_of rights) kind ≡ allows rights kind
@@ -86,3 +89,18 @@ first_stays watch start after byte mode kind allowed inside may kept earlier lat
 
 pub last_stays : (watch : Watch) (start after : RegisterFile) → StaysAs watch start after after
 last_stays watch start after byte mode kind allowed inside may kept earlier later = later
+
+-- so one write is safe, and none
+safe_at_once : (watch : Watch) (start : RegisterFile) (writes : List Event) → length writes ≤ 1
+    → IsSafe watch start writes
+safe_at_once watch start writes few done = elim (cases_lt done 1) [
+  | inl before ↦
+      let none : done ≡ 0 = omega (arith, before) in rw none (first_stays watch start (fold step start writes))
+  | inr all ↦
+      rw (take_all done writes (omega (arith, few, all))) (last_stays watch start (fold step start writes))
+]
+
+pub safe_as_asked : (watch : Option Watch) (start : RegisterFile) (writes : List Event) → length writes ≤ 1
+    → IfSome watch (λ watch. IsSafe watch start writes)
+safe_as_asked None start writes few = tt
+safe_as_asked (Some watch) start writes few = safe_at_once watch start writes few

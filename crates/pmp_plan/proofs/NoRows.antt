@@ -1,21 +1,22 @@
 -- mseccfg alone meets a plan without rows.
-use Rattle.std.proofs.Common.{◌≡◌, ◌≢◌, ap, arith, refl, sym, ℕ, zero, suc, ◌<◌, ◌∷◌, [], Bool, false, true, List, None}
-use Rattle.std.proofs.Common.{length, nat_eq, replicate}
+use Rattle.std.proofs.Common.{◌≡◌, ◌≢◌, ap, arith, refl, sym, ℕ, zero, suc, ◌<◌, ◌≤◌, ◌==◌, ◌∷◌, [], Bool, false, true, List, None}
+use Rattle.std.proofs.Common.{if◌then◌else◌, length, nat_eq, replicate}
 use Rattle.std.proofs.lemmas.Bool.{eqb-true, lt-ltb}
 use Rattle.std.proofs.lemmas.List.{length-replicate}
+use Rattle.std.specs.List.{list_all}
 use Rattle.pmp_core.specs.declared.csr.Csr.TheVariants.{Mseccfg}
 use Rattle.pmp_core.specs.declared.event.Event.TheVariants.{Write}
 use Rattle.pmp_core.specs.declared.hart.Profile.{Profile}
 use Rattle.pmp_core.specs.declared.mseccfg.MseccfgFields.{MseccfgFields}
-use Rattle.pmp_core.specs.Histories.{replay}
+use Rattle.pmp_core.specs.Histories.{is_write, replay}
 use Rattle.pmp_core.specs.Matching.{Matches}
 use Rattle.pmp_core.specs.RegisterFile.{RegisterFile, file_of, reset_entry}
 use Rattle.pmp_core.specs.RegisterWrite.{is_any_locked}
 use Rattle.pmp_core.proofs.Legal.{reset_at}
 use Rattle.pmp_map.specs.RightsRuns.{HasRights}
-use Rattle.pmp_plan.specs.declared.plan_row.PlanRow.{PlanRow}
 use Rattle.pmp_plan.specs.declared.security.Security.{Security}
 use Rattle.pmp_plan.specs.NoRows.{security_writes}
+use Rattle.pmp_plan.specs.PlanFaults.{Makes}
 use Rattle.pmp_plan.specs.Plans.{MeetsPlan, no_security, rest_rights, security_value}
 
 -- the bits of mseccfg, as a file has them
@@ -28,6 +29,15 @@ bits mml mmwp rlb = record { mml = mml; mmwp = mmwp; rlb = rlb }
 none_locked : (n : ℕ) → is_any_locked (replicate n reset_entry) ≡ false
 none_locked zero = refl
 none_locked (suc n) = none_locked n
+
+-- one write of mseccfg, or none
+only_by : (is : Bool) (value : ℕ) → list_all is_write (if is then [] else Write Mseccfg value ∷ []) ≡ true
+only_by true value = refl
+only_by false value = refl
+
+few_by : (is : Bool) (value : ℕ) → length (if is then [] else Write Mseccfg value ∷ []) ≤ 1
+few_by true value = omega arith
+few_by false value = omega arith
 
 module _ (hart : Profile) (some : 0 < hart.entries) where
   -- the hart with these bits, and each entry as reset leaves it
@@ -87,10 +97,16 @@ module _ (hart : Profile) (some : 0 < hart.entries) where
   met_by_bits true true false kept = met_by_write true true false kept (λ e. absurd (omega (arith, e)))
   met_by_bits true true true kept = met_by_write true true true kept (λ e. absurd (omega (arith, e)))
 
-  pub met_without_rows : (security : Security) → (hart.has_smepmp ≡ false → security ≡ no_security)
-      → MeetsPlan hart security [] (replay hart (security_writes security))
-  met_without_rows security kept = met_by_bits security.mml security.mmwp security.rlb kept
+  pub made_without_rows : (security : Security) → (hart.has_smepmp ≡ false → security ≡ no_security)
+      → Makes hart security [] (security_writes security)
+  made_without_rows security kept = record {
+    only = only_by (security_value security == 0) (security_value security);
+    met = met_by_bits security.mml security.mmwp security.rlb kept;
+  }
 
-pub no_rows : (rows : List PlanRow) → true ≡ nat_eq (length rows) 0 → rows ≡ []
+pub few_without_rows : (security : Security) → length (security_writes security) ≤ 1
+few_without_rows security = few_by (security_value security == 0) (security_value security)
+
+pub no_rows : {A : Type 0} (rows : List A) → true ≡ nat_eq (length rows) 0 → rows ≡ []
 no_rows [] is = refl
 no_rows (row ∷ more) is = absurd (omega (arith, eqb-true (length (row ∷ more)) 0 (sym is)))

@@ -1,9 +1,8 @@
 -- What is written for a plan's text, and why nothing is.
-use Rattle.std.specs.Prelude.{◌≡◌, ◌⊎◌, ℕ, ◌<◌, List, length, Option, Ok, Err, map, true}
+use Rattle.std.specs.Prelude.{◌≡◌, ◌⊎◌, ℕ, ◌<◌, ◌≤◌, List, length, Option, Ok, Err, map}
 use Rattle.std.specs.Io.KnownBytes.{Appends, Keeps}
-use Rattle.std.specs.List.{AllPairs, list_all}
+use Rattle.std.specs.List.{AllPairs}
 use Rattle.pmp_core.specs.declared.event.Event.{Event}
-use Rattle.pmp_core.specs.Histories.{is_write}
 use Rattle.pmp_core.specs.RegisterFile.{RegisterFile}
 use Rattle.pmp_text.specs.Bytes.{AppendsBeginning}
 use Rattle.pmp_text.specs.declared.trace.RowFault.{RowFault}
@@ -29,7 +28,7 @@ use Rattle.pmp_plan.specs.Routes.{Leads}
 abbrev pub IsText : RegisterFile → Aim → Form → List PlanRow → (text : List ℕ) → Type 0
 IsText start aim Script rows text = MeansPlan start aim rows text
 IsText start aim Array rows text =
-    (writes : List Event) × (list_all is_write writes ≡ true) × (text ≡ array_text writes) × Leads start aim rows writes
+    (writes : List Event) × (text ≡ array_text writes) × Leads start aim rows writes
 
 -- and no two rows have a byte in common
 abbrev pub IsTold : RegisterFile → Aim → Form → List PlanRow → (text : List ℕ) → Type 0
@@ -42,8 +41,9 @@ abbrev pub too_long : RowFault
 too_long = at_row 0 (as_whole TooLong)
 
 module _ (start : RegisterFile) (aim : Aim) (form : Form) (plan : List ℕ) where
-  -- the text of a plan has rows, and this text the writes for them
+  -- the text of a plan is no longer than a script of version 1 may be, and has rows, and this text the writes for them
   pub record Tells (text : List ℕ) : Type 0 where
+    pub fits : length plan ≤ MAX_SCRIPT
     pub rows : List PlanRow
     pub are : plan_said plan ≡ Ok (map said rows)
     pub told : IsTold start aim form rows text

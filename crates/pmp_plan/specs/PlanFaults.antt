@@ -1,12 +1,12 @@
 -- Why a plan is refused.
-use Rattle.std.specs.Prelude.{◌≡◌, ◌⊎◌, ℕ, ◌+◌, ◌*◌, ◌/◌, ◌^◌, ◌<◌, ◌≤◌, ◌==◌, Bool, true, false, not, List, Some}
+use Rattle.std.specs.Prelude.{◌≡◌, ◌⊎◌, ℕ, ◌+◌, ◌*◌, ◌/◌, ◌^◌, ◌<◌, ◌≤◌, ◌==◌, Bool, true, false, not, List, [], Some}
 use Rattle.std.specs.Prelude.{◌≢◌, ⊤, All, length, slice_get}
-use Rattle.std.specs.List.{AllPairs}
+use Rattle.std.specs.List.{AllPairs, list_all}
 use Rattle.pmp_core.specs.declared.event.Event.{Event}
 use Rattle.pmp_core.specs.declared.hart.Profile.{Profile}
 use Rattle.pmp_core.specs.declared.size.TheConstants.{MAX_ENTRIES}
 use Rattle.pmp_core.specs.Hart.{word_addresses}
-use Rattle.pmp_core.specs.Histories.{replay}
+use Rattle.pmp_core.specs.Histories.{is_write, replay}
 use Rattle.pmp_core.specs.RegisterFile.{RegisterFile}
 use Rattle.pmp_text.specs.declared.refusal.Refusal.{Refusal}
 use Rattle.pmp_text.specs.declared.refusal.Refusal.TheVariants as refusal
@@ -77,13 +77,23 @@ pub record IsSound (hart : Profile) (security : Security) (rows : List PlanRow) 
   pub kept : hart.has_smepmp ≡ false → security ≡ no_security
   pub ruled : All (λ row. HasRule security row.demand) rows
 
--- some writes to the hart after reset lead to registers that meet the plan
+-- the writes, none of which is a reset, lead from the hart after reset to registers that meet the plan
+pub record Makes (hart : Profile) (security : Security) (rows : List PlanRow) (writes : List Event) : Type 0 where
+  pub only : list_all is_write writes ≡ true
+  pub met : MeetsPlan hart security rows (replay hart writes)
+
+-- some do
 abbrev pub CanMeet : Profile → Security → List PlanRow → Type 0
-CanMeet hart security rows = (writes : List Event) × MeetsPlan hart security rows (replay hart writes)
+CanMeet hart security rows = (writes : List Event) × Makes hart security rows writes
+
+-- the row is one of the plan's; or it has none, and the hart, without entries, needs one
+abbrev pub NamesRow : Profile → List PlanRow → (found row takes : ℕ) → Type 0
+NamesRow hart rows found row takes =
+    (row < length rows) ⊎ ((rows ≡ []) × (hart.entries ≡ 0) × (found ≡ 1) × (takes ≡ 0))
 
 -- the rows have this fault; no rule gives what a row asks; the hart has no mseccfg, though a bit of it is asked for; a
--- sound plan takes `found` entries, more than the hart has, and that many suffice if a hart can have them; or no
--- entries were found for a sound plan with rows. Running out of memory says nothing about the plan
+-- sound plan takes `found` entries, more than the hart has, a row of it is named, and that many suffice if a hart can
+-- have them; or no entries were found for a sound plan with rows. Running out of memory says nothing about the plan
 abbrev pub Refuses : Profile → Security → List PlanRow → PlanFault → Type 0
 Refuses hart security rows (fault.Overlap row other) = AreOverlapping rows row other
 Refuses hart security rows (fault.TooFine number field) =
@@ -94,15 +104,21 @@ Refuses hart security rows (fault.BadPair number) =
     (row : PlanRow) × (slice_get rows number ≡ Some row) × ¬ (HasRule security row.demand)
 Refuses hart security rows fault.NotHeld = (hart.has_smepmp ≡ false) × (security ≢ no_security)
 Refuses hart security rows (fault.FewEntries found row takes) =
-    IsSound hart security rows × (hart.entries < found)
+    IsSound hart security rows × (hart.entries < found) × NamesRow hart rows found row takes
     × (found ≤ MAX_ENTRIES → CanMeet (record hart { entries = found }) security rows)
 Refuses hart security rows fault.Stopped = IsSound hart security rows × (0 < length rows)
 Refuses hart security rows fault.NoOrder = ⊥
 Refuses hart security rows fault.Memory = ⊤
 
--- from these registers: the plan has this fault, or no order of writes was found for a sound one, though one is asked for
+-- no order of writes was found for a sound plan, which the registers don't meet yet; and if they are those of reset, it
+-- has rows, and something is asked of the way
+pub record HasNoOrder (start : RegisterFile) (aim : Aim) (rows : List PlanRow) : Type 0 where
+  pub sound : IsSound start.profile (lasting start aim.security) rows
+  pub unmet : ¬ (MeetsPlan start.profile (lasting start aim.security) rows start)
+  pub bound : ¬ (IsPlain start aim rows)
+
+-- from these registers: the plan has this fault, or there is no order
 abbrev pub RefusesFrom : RegisterFile → Aim → List PlanRow → PlanFault → Type 0
 RefusesFrom start aim rows why =
-    let security = lasting start aim.security in
-    Refuses start.profile security rows why
-    ⊎ ((why ≡ fault.NoOrder) × IsSound start.profile security rows × ¬ (IsPlain start aim))
+    Refuses start.profile (lasting start aim.security) rows why
+    ⊎ ((why ≡ fault.NoOrder) × HasNoOrder start aim rows)

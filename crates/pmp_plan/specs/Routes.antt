@@ -1,10 +1,12 @@
 -- Writes that lead to a plan, and what stays as it is from each to the next (Volume II, 3.7.1.3 and Smepmp).
-use Rattle.std.specs.Prelude.{◌≡◌, ℕ, ◌<◌, Bool, true, not, ◌||◌, List, fold, take, IfSome, Option, None}
+use Rattle.std.specs.Prelude.{◌≡◌, ◌⊎◌, ℕ, ◌<◌, Bool, true, not, ◌||◌, List, [], fold, take, IfSome, None}
+use Rattle.std.specs.List.{list_all}
 use Rattle.pmp_core.specs.declared.access.Kind.{Kind}
 use Rattle.pmp_core.specs.declared.access.Mode.{Mode}
 use Rattle.pmp_core.specs.declared.access.Mode.TheVariants.{M, S, U}
 use Rattle.pmp_core.specs.declared.access.TheConstants.{ADDRESS_LIMIT}
 use Rattle.pmp_core.specs.declared.event.Event.{Event}
+use Rattle.pmp_core.specs.Histories.{is_write}
 use Rattle.pmp_core.specs.RegisterFile.{RegisterFile, reset_file}
 use Rattle.pmp_core.specs.RegisterWrite.{step}
 use Rattle.pmp_map.specs.OpenBytes.{IsAnswered}
@@ -49,12 +51,13 @@ lasting file asked = record {
 abbrev pub plain : Security → Aim
 plain security = record { security = security; watch = None }
 
--- the registers after the writes meet the plan, and each write is safe if that is asked for
+-- none of the writes is a reset, the registers after them meet the plan, and each is safe if that is asked for
 pub record Leads (start : RegisterFile) (aim : Aim) (rows : List PlanRow) (writes : List Event) : Type 0 where
+  pub only : list_all is_write writes ≡ true
   pub met : MeetsPlan start.profile (lasting start aim.security) rows (fold step start writes)
   pub safe : IfSome aim.watch (λ watch. IsSafe watch start writes)
 
--- after reset, and nothing is asked of the way
-pub record IsPlain (start : RegisterFile) (aim : Aim) : Type 0 where
+-- after reset, and nothing is asked of the way, or the plan has no rows
+pub record IsPlain (start : RegisterFile) (aim : Aim) (rows : List PlanRow) : Type 0 where
   pub reset : start ≡ reset_file start.profile
-  pub unwatched : aim.watch ≡ None
+  pub eased : (aim.watch ≡ None) ⊎ (rows ≡ [])

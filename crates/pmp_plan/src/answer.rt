@@ -14,7 +14,7 @@ use crate::plan_row::PlanRow;
 use crate::reading::read_plan;
 use crate::script::append_script;
 use pmp_core::RegFile;
-use pmp_text::{MAX_SCRIPT, OutputFault, Refusal, LineFault, RowFault, write_out};
+use pmp_text::{LineFault, MAX_SCRIPT, OutputFault, Refusal, RowFault, write_out};
 use std::alloc::{AllocError, Global};
 use std::io::Write;
 

@@ -5,6 +5,7 @@ ghost use Rattle.std.specs.List.{list_all};
 ghost use Rattle.pmp_core.specs.Histories.{is_write};
 ghost use Rattle.pmp_plan.specs.PlanArrays.{array_line, array_text, csr_number};
 
+use crate::writes::are_writes;
 use pmp_core::{Csr, Event};
 use pmp_text::{NoMemory, RegisterName, Sink, append_line};
 
@@ -35,13 +36,6 @@ fn append_element<S: Sink>(out: &mut S, event: Event) -> Result<(), NoMemory>
         }
         Event::Reset => Ok(()),
     }
-}
-
-/// Whether there is no reset, for which an array has no element.
-fn are_writes(events: &[Event]) -> bool
-    ensures { result ≡ list_all is_write events.now }
-{
-    events.iter().all(|event| matches!(event, Event::Write(..)))
 }
 
 /// Appends the writes as a C array of CSR numbers and values in the order in which they are to be written.

@@ -69,8 +69,8 @@ fn order_of(
     order_in(layout, aim, rows)
 }
 
-/// Returns writes from these registers, if they are found: none if the registers meet the plan, or else to the entries
-/// that a plan has after a reset, or else to entries that are found behind those that no write changes.
+/// Returns writes from these registers, if they are found: to the entries that a plan has after a reset, or else to
+/// entries that are found behind those that no write changes.
 fn found(
     room: &mut [State],
     start: &RegFile,
@@ -78,9 +78,6 @@ fn found(
     rows: &[PlanRow<'_>],
     planned: &Planned,
 ) -> Option<ArrayVec<Event, WRITES>> {
-    if leads(start, aim, rows, &[]) {
-        return Some(ArrayVec::new());
-    }
     let mut after_reset = RegFile::reset_on(start.hart());
     after_reset.run_events(&planned.writes);
     let writes = order_of(start, &after_reset.save(), planned.entries, aim, rows);
@@ -94,12 +91,13 @@ fn found(
 }
 
 /// Returns writes from these registers to ones that give each byte of each row exactly the row's rights, hold it if the
-/// row is locked, and leave every other byte as without entries. If that is asked for, each write keeps closed what is
-/// closed before all of them and after.
+/// row is locked, and leave every other byte as without entries: none if the registers do so. If that is asked for, each
+/// write keeps closed what is closed before all of them and after.
 ///
 /// The writes are run on a unit of the hart, and judged, before they are returned, so the search can only refuse. The
 /// first of these is reported: what a plan for the same hart after a reset is refused for; `NoOrder`, which doesn't come
-/// after a reset if nothing is asked of the writes on the way. The search has the room, of `SEARCH_ROOM` states.
+/// after a reset if nothing is asked of the writes on the way, or if the plan has no rows. The search has the room, of
+/// `SEARCH_ROOM` states.
 pub fn plan(
     room: &mut [State],
     start: &RegFile,
@@ -111,6 +109,9 @@ pub fn plan(
     ensures err { IfErr result (RefusesFrom start.now aim rows.now) }
 {
     let planned = plan_at_reset(room, start.hart(), aim.lasting(start), rows)?;
+    if leads(start, aim, rows, &[]) {
+        return Ok(ArrayVec::new());
+    }
     let is_reset = *start == RegFile::reset_on(start.hart());
     if is_reset && leads(start, aim, rows, &planned.writes) {
         return Ok(planned.writes);

@@ -8,6 +8,7 @@ ghost use Rattle.pmp_plan.specs.Steps.{HaveRights, KindStays, PermsStay, RightsS
 use crate::aim::{Aim, Watch};
 use crate::judge::meets;
 use crate::plan_row::PlanRow;
+use crate::writes::are_writes;
 use pmp_core::{ADDRESS_LIMIT, Event, Kind, Perms, RegFile, Registers};
 use pmp_map::{ModeRights, run_around};
 
@@ -145,13 +146,14 @@ fn is_safe_as_asked(watch: Option<Watch>, start: &RegFile, writes: &[Event]) -> 
     }
 }
 
-/// Whether the writes lead from these registers to ones that meet the plan, each as safe as is asked for.
+/// Whether the events are writes and lead from these registers to ones that meet the plan, each as safe as is asked for.
 pub fn leads(start: &RegFile, aim: Aim, rows: &[PlanRow<'_>], writes: &[Event]) -> bool
     ensures yes { IsTrue result → Leads start.now aim rows.now writes.now }
     ensures no { Leads start.now aim rows.now writes.now → IsTrue result }
 {
     let mut end = *start;
     end.run_events(writes);
-    meets(&end, start.hart(), aim.lasting(start), rows)
+    are_writes(writes)
+        && meets(&end, start.hart(), aim.lasting(start), rows)
         && is_safe_as_asked(aim.watch, start, writes)
 }

@@ -1,11 +1,10 @@
 //! The writes for a plan after a reset.
 
 ghost use Rattle.std.specs.Prelude.{◌≡◌, ◌<◌, ◌≤◌, [], ℕ, IfErr, IfOk, IfSome, IsTrue, false, length};
-ghost use Rattle.pmp_core.specs.Histories.{replay};
 ghost use Rattle.pmp_core.specs.declared.size.TheConstants.{MAX_ENTRIES};
-ghost use Rattle.pmp_plan.specs.PlanFaults.{CanMeet, IsSound, Refuses};
+ghost use Rattle.pmp_plan.specs.PlanFaults.{CanMeet, IsSound, Makes, Refuses};
 ghost use Rattle.pmp_plan.specs.NoRows.{security_writes};
-ghost use Rattle.pmp_plan.specs.Plans.{MeetsPlan, no_security};
+ghost use Rattle.pmp_plan.specs.Plans.{no_security};
 
 use crate::fault::PlanFault;
 use crate::judge::meets;
@@ -15,7 +14,7 @@ use crate::search::search;
 use crate::security::Security;
 use crate::soundness::check_plan;
 use crate::state::{Chosen, State};
-use crate::writes::{WRITES, writes_of};
+use crate::writes::{WRITES, are_writes, writes_of};
 use arrayvec::ArrayVec;
 use pmp_core::{Csr, Event, Hart, MAX_ENTRIES, Profile, RegFile};
 
@@ -34,9 +33,12 @@ fn judged(
     rows: &[PlanRow<'_>],
     entries: &[Chosen],
 ) -> Option<Planned>
-    ensures met { IfSome result (λ planned. MeetsPlan hart security rows.now (replay hart planned.writes.items)) }
+    ensures { IfSome result (λ planned. Makes hart security rows.now planned.writes.items) }
 {
     let writes = writes_of(hart, security, entries);
+    if !are_writes(&writes) {
+        return None;
+    }
     let mut file = RegFile::reset_on(hart);
     file.run_events(&writes);
     if !meets(&file, hart, security, rows) {
@@ -80,7 +82,9 @@ fn is_enough(
 }
 
 /// Returns which of the rows takes the most entries, and how many.
-fn costliest(parts: &Parts, state: &State, rows: &[PlanRow<'_>]) -> (usize, usize) {
+fn costliest(parts: &Parts, state: &State, rows: &[PlanRow<'_>]) -> (usize, usize)
+    ensures { 0 < length rows.now → result.0 < length rows.now }
+{
     let (mut costly, mut takes) = (0, 0);
     for (index, row) in rows.iter().enumerate() {
         let chosen = state.chosen_at(parts, row.first);
@@ -100,7 +104,8 @@ fn found(
 ) -> Result<Planned, PlanFault>
     requires sound { IsSound hart security rows.now }
     requires rows { 0 < length rows.now }
-    ensures met { IfOk result (λ planned. MeetsPlan hart security rows.now (replay hart planned.writes.items)) }
+    ensures made { IfOk result (λ planned. Makes hart security rows.now planned.writes.items) }
+    ensures few { IfOk result (λ planned. rows.now ≡ [] → length planned.writes.items ≤ 1) }
     ensures err { IfErr result (Refuses hart security rows.now) }
 {
     let parts = Parts::of(hart, security, rows).ok_or(PlanFault::Stopped)?;
@@ -131,8 +136,9 @@ fn security_writes(security: Security) -> ArrayVec<Event, WRITES>
 /// Returns the writes for a plan without rows.
 fn of_no_rows(hart: Hart, security: Security) -> Planned
     requires kept { hart.has_smepmp ≡ false → security ≡ no_security }
-    ensures met { (count : ℕ) → 0 < count → let of = record hart { entries = count } in
-        MeetsPlan of security [] (replay of result.writes.items) }
+    ensures made { (count : ℕ) → 0 < count
+        → Makes (record hart { entries = count }) security [] result.writes.items }
+    ensures few { length result.writes.items ≤ 1 }
     ensures none { result.entries ≡ 0 }
 {
     Planned {
@@ -155,7 +161,8 @@ pub fn plan_at_reset(
     security: Security,
     rows: &[PlanRow<'_>],
 ) -> Result<Planned, PlanFault>
-    ensures met { IfOk result (λ planned. MeetsPlan hart security rows.now (replay hart planned.writes.items)) }
+    ensures made { IfOk result (λ planned. Makes hart security rows.now planned.writes.items) }
+    ensures few { IfOk result (λ planned. rows.now ≡ [] → length planned.writes.items ≤ 1) }
     ensures sound { IfOk result (λ planned. IsSound hart security rows.now) }
     ensures err { IfErr result (Refuses hart security rows.now) }
 {

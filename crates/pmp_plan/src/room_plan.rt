@@ -16,7 +16,7 @@ use crate::script::append_script;
 use crate::security::Security;
 use crate::state::State;
 use pmp_core::{Hart, RegFile};
-use pmp_text::Sink;
+use pmp_text::{MAX_SCRIPT, Refusal, Sink};
 
 /// Appends the script that `write_plan` writes for a plan in a text, for a hart after reset and these bits of
 /// `mseccfg`. The list keeps the plan's rows, and the search has the other room, of `SEARCH_ROOM` states.
@@ -33,6 +33,9 @@ pub fn append_plan<'a, L: RowList<'a>, S: Sink>(
     ensures err { IfErr result (HasNoScript hart security text.now) }
     ensures kept { OnErr result (S.text out.new ≡ S.text out.old) }
 {
+    if text.len() > MAX_SCRIPT {
+        return Err(AnswerFault::Text(Refusal::TooLong.whole().at_row(0)));
+    }
     read_plan_to(rows, text)?;
     let start = RegFile::reset_on(hart);
     let aim = Aim::plain(security);

@@ -35,7 +35,8 @@ fn script_of(start: &RegFile, writes: &[Event]) -> Result<ArrayVec<u8, SCRIPT>, 
     Ok(text)
 }
 
-/// Whether the text reads as a script that begins with these registers, and whose writes lead to the plan.
+/// Whether the text reads as a script that begins with these registers, expects nothing and names no moment, and whose
+/// writes lead to the plan.
 fn means_plan(text: &[u8], start: &RegFile, aim: Aim, rows: &[PlanRow<'_>]) -> bool
     ensures { IsTrue result → MeansPlan start.now aim rows.now text.now }
 {
@@ -44,6 +45,15 @@ fn means_plan(text: &[u8], start: &RegFile, aim: Aim, rows: &[PlanRow<'_>]) -> b
         return false;
     };
     if script.start().save() != start.save() {
+        return false;
+    }
+    if !script.expectations().is_empty() {
+        return false;
+    }
+    let Some(marks) = script.moments().marks else {
+        return false;
+    };
+    if !marks.is_empty() {
         return false;
     }
     leads(start, aim, rows, script.events())

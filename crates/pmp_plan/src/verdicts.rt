@@ -13,7 +13,7 @@ use crate::row_list::RowList;
 use crate::security::Security;
 use crate::unmet::{Unmet, first_unmet, first_unmet_rest};
 use pmp_core::{RegFile, Registers};
-use pmp_text::{NoMemory, Sink, RowFault, append_line};
+use pmp_text::{NoMemory, RowFault, Sink, append_line};
 use std::fmt;
 
 /// The number of an entry, or a dash for none.

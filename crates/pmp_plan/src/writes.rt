@@ -1,5 +1,9 @@
 //! The writes that produce entries after a reset.
 
+ghost use Rattle.std.specs.Prelude.{◌≡◌};
+ghost use Rattle.std.specs.List.{list_all};
+ghost use Rattle.pmp_core.specs.Histories.{is_write};
+
 use crate::security::Security;
 use crate::state::Chosen;
 use arrayvec::ArrayVec;
@@ -11,6 +15,13 @@ pub const WRITES: usize = 256;
 
 /// The number of configuration register numbers.
 pub const CONFIGURATIONS: u8 = 16;
+
+/// Whether no event is a reset.
+pub fn are_writes(events: &[Event]) -> bool
+    ensures { result ≡ list_all is_write events.now }
+{
+    events.iter().all(|event| matches!(event, Event::Write(..)))
+}
 
 /// Writes in their order.
 #[derive(Drop)]

@@ -21,6 +21,7 @@ returns-in_err-told-clause-err g c =
 pub returns-in_err-write_out-clause-err : goal.returns-in_err-write_out-clause-err
 returns-in_err-write_out-clause-err g c =
     err_returned _ _ c.from_residual-in_err-write_out.ensures.1 (no_output c.in_ok-told.told.items (record {
+      fits = omega (arith, c.if-text-gt-MAX_SCRIPT.false);
       rows = c.in_ok-rows.rows.items;
       are = c.in_ok-rows.ensures.ok;
       told = rw c.deref.ensures.value at c.in_ok-told.ensures.ok;

@@ -1,10 +1,14 @@
-use Rattle.std.proofs.Common.{◌∙◌, ap, inl, sym, List, Ok, map}
+use Rattle.std.proofs.Common.{◌∙◌, ap, arith, inl, sym, List, Ok, map}
 use Rattle.pmp_plan.specs.KeptRows.{said}
-use Rattle.pmp_plan.specs.PlanRooms.{no_rows, no_script}
+use Rattle.pmp_plan.specs.PlanRooms.{long, no_rows, no_script}
 use Rattle.pmp_plan.specs.declared.fault.PlanFault.TheVariants.{Memory}
 use Rattle.pmp_plan.specs.declared.plan_row.PlanRow.{PlanRow}
 use Rattle.pmp_plan.proofs.Exits.{err_returned}
 use Rattle.pmp_plan.proofs.room_plan.append_plan.Goals as goal
+
+pub returns-then-text-gt-MAX_SCRIPT-clause-err : goal.returns-then-text-gt-MAX_SCRIPT-clause-err
+returns-then-text-gt-MAX_SCRIPT-clause-err g c =
+    rw (c.at_row.ensures, c.whole.ensures) (long (omega (arith, c.if-text-gt-MAX_SCRIPT.true)))
 
 pub returns-in_err-read_plan_to-clause-err : goal.returns-in_err-read_plan_to-clause-err
 returns-in_err-read_plan_to-clause-err g c =

@@ -1,4 +1,4 @@
-use Rattle.std.proofs.Common.{arith, inl, inr, refl, sym}
+use Rattle.std.proofs.Common.{arith, inl, inr, refl}
 use Rattle.std.proofs.lemmas.Bool.{cases_lt}
 use Rattle.pmp_plan.proofs.Answering.{rights_stay_here, stays_here}
 use Rattle.pmp_plan.proofs.passing.Passage.stays.Goals as goal
