@@ -22,12 +22,15 @@ module _ (start : RegisterFile) (aim : Aim) (rows : List PlanRow) where
     safe_plainly (inl none) = rw none tt
     safe_plainly (inr none) = safe_as_asked aim.watch start writes (few none)
 
+    -- the writes lead there from this file
+    abbrev MetFrom : RegisterFile → Type 0
+    MetFrom file = MeetsPlan start.profile (lasting start aim.security) rows (fold step file writes)
+
     -- what makes the plan's registers after reset leads to them from there, if that is easy
     pub leads_plainly : Makes start.profile (lasting start aim.security) rows writes → IsPlain start aim rows
         → Leads start aim rows writes
     leads_plainly made plain = record {
       only = made.only;
-      met = subst (λ (file : RegisterFile). MeetsPlan start.profile (lasting start aim.security) rows (fold step file writes))
-          (sym plain.reset) made.met;
+      met = subst MetFrom (sym plain.reset) made.met;
       safe = safe_plainly plain.eased;
     }
