@@ -1,6 +1,6 @@
 //! The scripts of all harts of a log, in a new folder.
 
-ghost use Rattle.std.specs.Prelude.{◌≡◌, ◌++◌, ◌∷◌, [], IfErr, IfOk, OnOk, option_map};
+ghost use Rattle.std.specs.Prelude.{◌≡◌, ◌++◌, ◌∷◌, [], IfErr, IfOk, OnErr, OnOk, option_map};
 ghost use Rattle.pmp_tool.specs.HartImports.{AddsHart, AreOf, CantMake, IsFound, IsUnfound, Makes, OneFails, new_folder};
 ghost use Rattle.pmp_tool.specs.HartImports.{writers};
 

@@ -1,4 +1,5 @@
 use Rattle.std.proofs.lemmas.Result.{err_from_is_err_and}
+use Rattle.pmp_text.specs.Inputs.{refusal_of_input}
 use Rattle.pmp_tool.specs.HartImports.{unopened, unsurveyed}
 use Rattle.pmp_tool.proofs.Answering.{bytes_given}
 use Rattle.pmp_tool.proofs.hart_imports.survey_at.Goals as goal
@@ -6,7 +7,7 @@ use Rattle.pmp_tool.proofs.hart_imports.survey_at.Goals as goal
 pub returns-in_err-log-clause-err : goal.returns-in_err-log-clause-err
 returns-in_err-log-clause-err g c =
     let p = err_from_is_err_and c.from_residual.result c.from_residual.ensures.1 in
-    rw (p.1, p.2) (unopened c.in_err-log.field-0.0 c.in_err-log.ensures.unopened)
+    rw (p.1, p.2) (unopened (refusal_of_input c.in_err-log.field-0.0) c.in_err-log.ensures.unopened)
 
 pub returns-in_err-survey_log-clause-err : goal.returns-in_err-survey_log-clause-err
 returns-in_err-survey_log-clause-err g c =
