@@ -1,6 +1,6 @@
 //! The program: from words to an exit status.
 
-ghost use Rattle.std.specs.Prelude.{◌≡◌, ◌⊎◌, ℕ, ◌≤◌, List, map, IfOk, IfErr, None, OnErr, Some, string_bytes};
+ghost use Rattle.std.specs.Prelude.{◌≡◌, ◌⊎◌, ℕ, ◌≤◌, List, map, IfOk, IfErr, None, OnErr, Some, false, string_bytes};
 ghost use Rattle.std.specs.Io.KnownBytes.{Appends, Keeps};
 ghost use Rattle.pmp_tool.specs.CommandLines.{AsksForPieces};
 ghost use Rattle.pmp_tool.specs.Explanations.{TellsAndExplains};
@@ -29,7 +29,7 @@ use crate::note::tell_note;
 use crate::outcome::Outcome;
 use clap::ArgMatches;
 use pmp_names::read_names;
-use pmp_text::write_out;
+use pmp_text::{Refusal, write_out};
 use std::alloc::Global;
 use std::io::Write;
 use std::sync::Wait;
@@ -121,10 +121,10 @@ fn answer_words<R: Threads + Wait + Sync, I: Inputs, O: Write>(
     ensures unchanged { OnErr result (I.paths inputs.new ≡ I.paths inputs.old) }
 {
     let Some(format) = asked_format(matches)? else {
-        return answer_rows(rt, alloc, matches, inputs, out);
+        return answer_rows(rt, alloc, matches, true, inputs, out);
     };
     let mut rows = Vec::new(alloc);
-    match answer_rows(rt, alloc, matches, inputs, &mut rows) {
+    match answer_rows(rt, alloc, matches, false, inputs, &mut rows) {
         Ok(outcome) => {
             let text = format.of(alloc, rows)?;
             write_out(out, &text)?;
@@ -134,11 +134,13 @@ fn answer_words<R: Threads + Wait + Sync, I: Inputs, O: Write>(
     }
 }
 
-/// Answers them in rows.
+/// Answers them in rows. A folder is made only where `may_make` is set: no command that makes one takes a form, and rows
+/// that are to have one can still be refused.
 fn answer_rows<R: Threads + Wait + Sync, I: Inputs, O: Write>(
     rt: &R,
     alloc: Global,
     matches: &ArgMatches<'_>,
+    may_make: bool,
     inputs: &mut I,
     out: &mut O,
 ) -> Result<Outcome, Failure>
@@ -147,12 +149,13 @@ fn answer_rows<R: Threads + Wait + Sync, I: Inputs, O: Write>(
     ensures err { IfErr result (DoesNoRows (subcommand_rows_of matches.now) (I.paths inputs.old) (O.contents out.old)
         (O.contents out.new)) }
     ensures unchanged { OnErr result (I.paths inputs.new ≡ I.paths inputs.old) }
+    ensures unmade { may_make ≡ false → I.paths inputs.new ≡ I.paths inputs.old }
 {
     let Some(path) = names_path(matches)? else {
         let command = read_command(matches, &[])?;
-        return answer_command(rt, alloc, command, None, inputs, out);
+        return answer_command(rt, alloc, command, None, may_make, inputs, out);
     };
-    answer_with(rt, alloc, matches, path, inputs, out)
+    answer_with(rt, alloc, matches, path, may_make, inputs, out)
 }
 
 /// Answers it with the names of addresses in the text at this path.
@@ -161,6 +164,7 @@ fn answer_with<R: Threads + Wait + Sync, I: Inputs, O: Write>(
     alloc: Global,
     matches: &ArgMatches<'_>,
     path: &str,
+    may_make: bool,
     inputs: &mut I,
     out: &mut O,
 ) -> Result<Outcome, Failure>
@@ -169,13 +173,14 @@ fn answer_with<R: Threads + Wait + Sync, I: Inputs, O: Write>(
     ensures err { IfErr result (DoesNotAt (subcommand_rows_of matches.now) (I.paths inputs.old) (O.contents out.old)
         (O.contents out.new) (Some path.now)) }
     ensures unchanged { OnErr result (I.paths inputs.new ≡ I.paths inputs.old) }
+    ensures unmade { may_make ≡ false → I.paths inputs.new ≡ I.paths inputs.old }
 {
     let text = inputs.trace(path)?;
     let names = read_names(alloc, &text)?;
     inputs.forget();
     let command = read_command(matches, &names)?;
     let naming = Naming::of(&names, command.request);
-    answer_command(rt, alloc, command, Some(naming), inputs, out)
+    answer_command(rt, alloc, command, Some(naming), may_make, inputs, out)
 }
 
 /// Answers a command: for the hart of its script, or for each hart if a folder is given instead of a script.
@@ -184,6 +189,7 @@ fn answer_command<R: Threads + Wait + Sync, I: Inputs, O: Write>(
     alloc: Global,
     command: Command<'_>,
     naming: Option<Naming<'_>>,
+    may_make: bool,
     inputs: &mut I,
     out: &mut O,
 ) -> Result<Outcome, Failure>
@@ -192,8 +198,12 @@ fn answer_command<R: Threads + Wait + Sync, I: Inputs, O: Write>(
     ensures err { IfErr result (Undone (I.paths inputs.old) command.entry (O.contents out.old) (O.contents out.new)
         naming.entry) }
     ensures unchanged { OnErr result (I.paths inputs.new ≡ I.paths inputs.old) }
+    ensures unmade { may_make ≡ false → I.paths inputs.new ≡ I.paths inputs.old }
 {
     if let Some((import, folder)) = new_folder(command.request) {
+        if !may_make {
+            return Err(Failure::from(Refusal::Memory));
+        }
         return import_harts(rt, alloc, command, import, folder, inputs);
     }
     match Harts::find(alloc, command, inputs)? {

@@ -1,6 +1,7 @@
 use Rattle.std.proofs.Common.{◌∙◌, inr, sym}
 use Rattle.std.proofs.KnownBytes.{Keeps-refl}
 use Rattle.std.proofs.lemmas.Result.{IfErr-weaker, IfOk-weaker, err_from_is_err_and}
+use Rattle.pmp_tool.specs.HartImports.{one_fails, unkept}
 use Rattle.pmp_tool.specs.Runs.{no_harts, of_harts, of_one}
 use Rattle.pmp_tool.proofs.run.answer_command.Goals as goal
 
@@ -35,3 +36,7 @@ returns-in-Some-2-clause-err g c =
     (IfErr-weaker c.answer_folder.result _ _
     (λ failure is. of_harts c.in-Some-2.harts failure (rw c.in-Some-2.is at found.found) is)
     (rw found.paths at c.answer_folder.ensures.err))
+
+pub returns-then-not-may_make-clause-err : goal.returns-then-not-may_make-clause-err
+returns-then-not-may_make-clause-err g c =
+    rw (c.from.ensures, sym (rw c.in-Some.is at c.new_folder.ensures)) (one_fails _ unkept, Keeps-refl _)
