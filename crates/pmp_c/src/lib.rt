@@ -234,10 +234,10 @@ pub extern "C" fn tilvenka_pmp_run(
 {
     match mode_of(mode) {
         Some(mode) if address < ADDRESS_LIMIT => {
-            let run = unit.run(address);
+            let (run, rights) = unit.run(mode, address);
             *first = run.first;
             *last = run.last;
-            let rights = rights_number(unit.rights(mode, address, 1));
+            let rights = rights_number(rights);
             u32::from(cause_number(whole_cause(run.owner))) + 1024 * rights
         }
         _ => u32::from(NO_CAUSE),

@@ -1,8 +1,10 @@
 //! The unit: its registers, and the tables of its map.
 
-ghost use Rattle.std.specs.Prelude.{◌≡◌, ◌+◌, ◌^◌, ◌<◌, ◌≤◌, IfSome, Err, MatchResult, Ok, false, true};
+ghost use Rattle.std.specs.Prelude.{◌≡◌, ◌+◌, ◌^◌, ◌<◌, ◌≤◌, IfSome, Err, MatchResult, Ok, Some, false, true};
 ghost use Rattle.pmp_core.specs.declared.access.TheConstants.{ADDRESS_LIMIT};
 ghost use Rattle.pmp_core.specs.Ranges.{decision_of};
+ghost use Rattle.pmp_core.specs.Rights.{perms_of};
+ghost use Rattle.pmp_map.specs.Answers.{owned_rights};
 ghost use Rattle.pmp_map.specs.Answer.{answer_number};
 ghost use Rattle.pmp_map.specs.RangeRights.{AreRangeRights};
 ghost use Rattle.pmp_map.specs.Runs.{IsRunAround};
@@ -14,7 +16,7 @@ ghost use Rattle.pmp_c.specs.Unit.{file_of_unit, IsBuilt, IsUnit};
 
 use crate::numbers::{MOVED, UNCHANGED, csr_of, csr_on, refusal_status, write_status};
 use pmp_core::{Access, Csr, CsrFault, Hart, Mode, Perms, Registers, SavedRegisters, Written};
-use pmp_map::{Run, Tables, answer_number, rights_in, run_around};
+use pmp_map::{Run, Tables, answer_number, owned_run, rights_in};
 
 /// A unit. If all its bytes are zero it is one of sixteen entries after reset, whose map isn't built.
 #[repr(C)]
@@ -223,15 +225,33 @@ impl Unit {
         }
     }
 
-    /// Returns all bytes around this one that have its owner, by the map if it is built.
-    pub fn run(&self, byte: u64) -> Run
+    /// Returns all bytes around this one that have its owner, and what the mode may do there, by the registers.
+    #[cold]
+    #[inline(never)]
+    fn run_by_registers(&self, mode: Mode, byte: u64) -> (Run, Perms)
         requires { byte < ADDRESS_LIMIT }
-        ensures { IsUnit self.now → IsRunAround (file_of_unit self.now) byte result }
+        ensures run { IsRunAround (file_of_unit self.now) byte result.0 }
+        ensures rights { result.1 ≡ perms_of (owned_rights (file_of_unit self.now) result.0.owner mode) }
+    {
+        match Registers::on_standard(&self.registers) {
+            Some(registers) => owned_run(&registers, mode, byte),
+            None => owned_run(&Registers::of(&self.registers), mode, byte),
+        }
+    }
+
+    /// Returns the same, by the map if it is built.
+    #[inline(always)]
+    pub fn run(&self, mode: Mode, byte: u64) -> (Run, Option<Perms>)
+        requires { byte < ADDRESS_LIMIT }
+        ensures run { IsUnit self.now → IsRunAround (file_of_unit self.now) byte result.0 }
+        ensures rights { IsUnit self.now → result.1
+            ≡ Some (perms_of (owned_rights (file_of_unit self.now) result.0.owner mode)) }
     {
         if self.map.runs > 0 {
-            self.map.run_of(byte)
+            (self.map.run_of(byte), self.map.rights(mode, byte, 1))
         } else {
-            run_around(&Registers::of(&self.registers), byte)
+            let (run, rights) = self.run_by_registers(mode, byte);
+            (run, Some(rights))
         }
     }
 }

@@ -7,7 +7,6 @@ use Rattle.std.proofs.lemmas.Bool.{and_parts, leb-true, ltb-true}
 use Rattle.std.proofs.lemmas.Bool.Decides.{nat_tests}
 use Rattle.std.proofs.lemmas.List.{get_or_past}
 use Rattle.pmp_core.specs.declared.hart.Profile.{Profile}
-use Rattle.pmp_core.specs.Configuration.{byte_of}
 use Rattle.pmp_core.specs.Hart.{bytes_in, holds_byte_of}
 use Rattle.pmp_core.specs.RegisterFile.{RegisterFile, entry_at}
 use Rattle.pmp_core.specs.RegisterValue.{byte_in}
@@ -52,14 +51,6 @@ module _ (profile : Profile) (q : ℕ) where
 
 pub byte_within : (file : RegisterFile) (q i : ℕ) → byte_in file q i < 256
 byte_within file q i = search (rules, tests, byte_plain)
-
-module _ (file : RegisterFile) (q place count : ℕ) (count_is : count ≡ bytes_in file.profile q) where
-  pub byte_there : (byte : ℕ) → place < count → byte ≡ byte_of (entry_at file.entries (4 * q + place)).configuration
-      → byte ≡ byte_in file q (4 * q + place)
-  byte_there byte near is = search rules
-
-  pub byte_beside : count ≤ place → 0 ≡ byte_in file q (4 * q + place)
-  byte_beside far = rw (none_above file.profile q (4 * q + place) (omega (arith, count_is))) refl
 
 zero_either : (holds : Bool) (byte : ℕ) → byte ≡ 0 → 0 ≡ cond holds byte 0
 zero_either holds byte is = search rules

@@ -1,18 +1,21 @@
 -- The reasons for a write, one by one.
 use borrow.Author.Tests.{tests}
 use Rattle.std.proofs.Common.{◌≡◌, ℕ, zero, suc, ◌+◌, ◌-◌, ◌<◌, ◌≤◌, Bool, true, false, cond, List, [], ◌∷◌, length}
-use Rattle.std.proofs.Common.{rules, get_or, refl, sym, ◌∙◌, inl, inr, arith}
+use Rattle.std.proofs.Common.{rules, ◌/◌, ◌==◌, ◌&&◌, not, ap, map, get_or, refl, sym, ◌∙◌, inl, inr, arith}
 use Rattle.std.specs.List.{range_with_len, list_any, filter}
-use Rattle.std.proofs.lemmas.Bool.{false≢true, false_from_ne_true, or_from, cases_Bool, cases_lt}
+use Rattle.std.proofs.lemmas.Bool.{and_right, eq-eqb, false≢true, lt-ltb, false_from_ne_true, true_from_ne_false, or_from, cases_Bool, cases_eq, ne_eqb}
 use Rattle.std.proofs.lemmas.List.Folds.{list_any_at}
 use Rattle.std.proofs.lemmas.List.FromFn.{length-range_with_len, get_or-range_with_len}
 use Rattle.pmp_core.specs.declared.csr.Csr.{Csr}
+use Rattle.pmp_core.specs.declared.csr.Csr.TheVariants.{Addr}
 use Rattle.pmp_core.specs.declared.write_reasons.WriteReason.{WriteReason}
 use Rattle.pmp_core.specs.declared.write_reasons.WriteReason.TheVariants.{Absent, Bits, Frozen, Tor, Reserved, Lockdown}
 use Rattle.pmp_core.specs.declared.write_reasons.WriteReason.TheVariants.{Sticky, Bypass, Grain}
-use Rattle.pmp_core.specs.RegisterFile.{RegisterFile}
-use Rattle.pmp_core.specs.RegisterWrite.{holds}
-use Rattle.pmp_core.specs.WriteReasons.{is_reason, is_entry_reason, is_some_entry_reason, all_reasons}
+use Rattle.pmp_core.specs.Grain.{read_address}
+use Rattle.pmp_core.specs.Hart.{word_addresses}
+use Rattle.pmp_core.specs.RegisterFile.{RegisterFile, entry_at, is_frozen}
+use Rattle.pmp_core.specs.RegisterWrite.{holds, is_address_frozen}
+use Rattle.pmp_core.specs.WriteReasons.{bits_of, is_changed, is_reason, is_entry_reason, is_some_entry_reason, all_reasons}
 use Rattle.pmp_core.specs.WriteReasons.{write_reasons}
 
 -- ---- lists
@@ -53,24 +56,6 @@ none_in p (x ∷ xs) h = or_from (p x) _ (h 0 (omega arith)) (none_in p xs (λ i
 pub none_of : (p : ℕ → Bool) (xs : List ℕ) (i : ℕ) → list_any p xs ≡ false → i < length xs → p (get_or xs i 0) ≡ false
 none_of p xs i none near = search (rules, tests, false_from_ne_true, false≢true, list_any_at)
 
--- who passes beside a span of the numbers doesn't, so the span says whether any does
-pub any_between : (p : ℕ → Bool) (a b n : ℕ) → b ≤ n
-    → ((i : ℕ) → i < n → (a ≤ i → b ≤ i) → p i ≡ false)
-    → list_any p (range_with_len a (b - a)) ≡ list_any p (range_with_len 0 n)
-any_between p a b n within others = elim (cases_Bool (list_any p (range_with_len 0 n))) [
-  | inl some ↦ elim (cases_Bool (list_any p (range_with_len a (b - a)))) [
-    | inl here ↦ here ∙ sym some
-    | inr none ↦ absurd (false≢true (sym (none_between p 0 n (λ i _ near. elim (cases_lt i a) [
-      | inl below ↦ others i (omega arith) (λ low. absurd (omega arith))
-      | inr low ↦ elim (cases_lt i b) [
-        | inl high ↦ none_at p a (b - a) i none low (omega arith)
-        | inr past ↦ others i (omega arith) (λ _. past)
-      ]
-    ])) ∙ some))
-  ]
-  | inr none ↦ none_between p a (b - a) (λ i low high. none_at p 0 n i none (omega arith) (omega arith)) ∙ sym none
-]
-
 -- ---- a reason for some entry
 
 -- no reason holds for an entry of which the register holds nothing
@@ -87,6 +72,55 @@ module _ (reason : WriteReason) (file : RegisterFile) (csr : Csr) (value : ℕ) 
   pub none_at_entries : ((i : ℕ) → i < length file.entries → is_entry_reason reason file csr value i ≡ false)
       → is_some_entry_reason reason file csr value ≡ false
   none_at_entries each = search (rules, tests, none_between)
+
+-- an address register's are its own entry's
+pub own_reason : (reason : WriteReason) (file : RegisterFile) (k value : ℕ) → k < length file.entries
+    → is_entry_reason reason file (Addr k) value k ≡ is_some_entry_reason reason file (Addr k) value
+own_reason reason file k value inside = elim (cases_Bool (is_entry_reason reason file (Addr k) value k)) [
+  | inl some ↦ some ∙ sym (true_from_ne_false _ (λ none.
+      false≢true (sym (none_at_entry reason file (Addr k) value none k inside) ∙ some)))
+  | inr none ↦ none ∙ sym (none_at_entries reason file (Addr k) value (λ i near. elim (cases_eq i k) [
+    | inl here ↦ rw here none
+    | inr apart ↦ not_own reason file (Addr k) value i (ne_eqb i k apart)
+  ]))
+]
+
+-- an address that no lock keeps has bits that the register lacks, or is too fine
+module _ (file : RegisterFile) (k value : ℕ) (inside : k < length file.entries)
+    (free : is_address_frozen file k ≡ false) where
+  abbrev changes : Bool
+  changes = is_changed file (Addr k) value k
+
+  abbrev is_fine : Bool
+  is_fine = read_address file.profile.grain (entry_at file.entries k).configuration.matching value == value
+
+  absent : is_reason Absent file (Addr k) value ≡ false
+  absent = rw (lt-ltb k (length file.entries) inside) (and_right (not (value == 0)) false refl)
+
+  unfrozen : is_frozen file k ≡ false
+  unfrozen = search (rules, tests, free)
+
+  frozen : is_some_entry_reason Frozen file (Addr k) value ≡ false
+  frozen = sym (own_reason Frozen file k value inside) ∙ ap (λ b. b && changes) unfrozen
+
+  tor : is_some_entry_reason Tor file (Addr k) value ≡ false
+  tor = sym (own_reason Tor file k value inside) ∙ ap (λ b. (not (is_frozen file k) && b) && changes) free
+      ∙ ap (λ b. b && changes) (and_right (not (is_frozen file k)) false refl)
+
+  reserved : is_some_entry_reason Reserved file (Addr k) value ≡ false
+  reserved = none_at_entries Reserved file (Addr k) value (λ i within. refl)
+
+  lockdown : is_some_entry_reason Lockdown file (Addr k) value ≡ false
+  lockdown = none_at_entries Lockdown file (Addr k) value (λ i within. refl)
+
+  grain : is_some_entry_reason Grain file (Addr k) value ≡ not is_fine
+  grain = sym (own_reason Grain file k value inside) ∙ ap (λ b. b && not is_fine) (eq-eqb k k refl)
+
+  pub open_reasons : bits_of (map (λ reason. is_reason reason file (Addr k) value) all_reasons)
+      ≡ bits_of (false ∷ not (value / word_addresses file.profile == 0) ∷ false ∷ false ∷ false ∷ false ∷ false ∷ false
+      ∷ not is_fine ∷ [])
+  open_reasons = (λ i. bits_of (absent i ∷ not (value / word_addresses file.profile == 0) ∷ frozen i ∷ tor i ∷ reserved i
+      ∷ lockdown i ∷ false ∷ false ∷ grain i ∷ []))
 
 -- ---- the reasons one by one
 

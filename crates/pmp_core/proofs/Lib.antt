@@ -25,6 +25,7 @@ pub mod Restored
 mod Writes
 pub mod EachReason
 pub mod WordBytes
+pub mod WordTests
 pub mod AbsentBytes
 pub mod WordReasons
 pub mod AddressReasons
@@ -32,4 +33,5 @@ pub mod MseccfgReasons
 pub mod ReasonsLaw
 pub mod Reachable
 pub mod MovedWrites
+mod FlaggedReasons
 mod Xlen

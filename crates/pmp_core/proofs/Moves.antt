@@ -251,8 +251,5 @@ moved_law file Mseccfgh value legal = by_mseccfgh file value legal
 
 -- of two files one of which a write made of the other
 module _ (one other : RegisterFile) (csr : Csr) (by : (value : ℕ) × (other ≡ written one csr value)) where
-  pub same_count : length other.entries ≡ length one.entries
-  same_count = ap (λ (file : RegisterFile). length file.entries) by.1 ∙ length-written one csr by.0
-
   pub beside_by : (moved : Option Span) → IsLegal one → moved ≡ moved_by one other csr → AreAlikeBeside one other moved
   beside_by moved legal is = rw (is, by.1) (moved_law one csr by.0 legal)

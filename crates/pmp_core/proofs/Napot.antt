@@ -1,12 +1,10 @@
 -- An address in NAPOT form is spelled in one way, which its trailing ones give.
-use Rattle.std.proofs.Common.{◌≡◌, ℕ, zero, suc, ◌+◌, ◌*◌, ◌/◌, ◌%◌, ◌^◌, ◌<◌, ◌≤◌, refl, sym, ap, ◌∙◌, inl, inr, arith}
+use Rattle.std.proofs.Common.{◌≡◌, ℕ, zero, suc, ◌+◌, ◌*◌, ◌/◌, ◌%◌, ◌^◌, ◌<◌, ◌-◌, add-one, bit_and, bit_or, refl, sym, ap, ap₂, ◌∙◌, arith}
+use lib.Bits.{and_self, and_shifted, or_add_and, or_self}
 use Rattle.std.specs.Int.{bit_at, trailing_ones, w64}
-use Rattle.std.proofs.Math.Nat.{div-div-eq-div-mul, pow-succ', div-mul-le_self}
-use Rattle.std.proofs.Math.Pow.{pow_mono}
-use Rattle.std.proofs.lemmas.Bool.{cases_lt}
-use Rattle.std.proofs.lemmas.Nat.{pow-add}
-use Rattle.std.proofs.lemmas.Nat.Bits.{bit_at-trailing_ones, bit_at-suc, bit_at_lowest, bit_at_above}
-use Rattle.pmp_core.specs.declared.access.TheConstants.{ADDRESS_LIMIT}
+use Rattle.std.proofs.Math.Nat.{div-div-eq-div-mul, one-mul, pow-succ'}
+use Rattle.std.proofs.lemmas.Nat.{and_block, and_comm, or_block, or_lt, pow-add, pow_pos}
+use Rattle.std.proofs.lemmas.Nat.Bits.{bit_at-trailing_ones, bit_at-suc, bit_at_lowest}
 use Rattle.pmp_core.specs.declared.register_write.TheConstants.{WORD_ADDRESSES}
 
 -- k one bits below a zero bit
@@ -67,32 +65,54 @@ spelled_once (suc k) (suc j) y z e =
 ends_in_ones : (a : ℕ) → a < WORD_ADDRESSES → EndsInOnes a (trailing_ones w64 a)
 ends_in_ones a small = let h = bit_at-trailing_ones w64 a (omega arith) in record { ones = h.2; gap = h.1 }
 
-pub ones_at_most : (a : ℕ) → a < WORD_ADDRESSES → trailing_ones w64 a ≤ 54
-ones_at_most a small =
-    let h = ends_in_ones a small in
-    elim (cases_lt 54 (trailing_ones w64 a)) [
-      | inl lt ↦ absurd (omega (arith, h.ones 54 lt, bit_at_above a 54 54 small (omega arith)))
-      | inr le ↦ le
-    ]
-
 pub spelled_by_ones : (a : ℕ) → a < WORD_ADDRESSES
     → a + 1 ≡ a / 2 ^ suc (trailing_ones w64 a) * 2 ^ suc (trailing_ones w64 a) + 2 ^ trailing_ones w64 a
 spelled_by_ones a small = spelled_by (trailing_ones w64 a) a (ends_in_ones a small)
 
--- what the shifts of the code compute stays within 58 bits
-pub record Shifts (a k : ℕ) : Type 0 where
-  pub ones : k ≤ 54
-  pub from : a / 2 ^ (k + 1) * 2 ^ (k + 3) < ADDRESS_LIMIT
-  pub size : 2 ^ (k + 3) ≤ 2 ^ 57
+module _ (a : ℕ) (small : a < WORD_ADDRESSES) where
+  abbrev k : ℕ
+  k = trailing_ones w64 a
 
-pub shifts : (a : ℕ) → a < WORD_ADDRESSES → Shifts a (trailing_ones w64 a)
-shifts a small =
-    let k = trailing_ones w64 a in
-    let ones = ones_at_most a small in
-    let low = div-mul-le_self a (2 ^ (k + 1)) in
-    let wide : 2 ^ (k + 3) ≡ 4 * 2 ^ (k + 1) = omega (arith, pow-add 2 k 3, pow-add 2 k 1) in
-    record {
-      ones = ones;
-      from = rw wide (omega arith);
-      size = pow_mono {i = k + 3} {j = 57} (omega arith);
-    }
+  abbrev y : ℕ
+  y = a / 2 ^ (k + 1)
+
+  one_more : a + 1 ≡ y * 2 ^ (k + 1) + 2 ^ k
+  one_more = rw (add-one k) (spelled_by_ones a small)
+
+  double : 2 ^ (k + 1) ≡ 2 * 2 ^ k
+  double = ap (λ (n : ℕ). 2 ^ n) (add-one k) ∙ pow-succ' 2 k
+
+  half : 2 ^ k < 2 ^ (k + 1)
+  half = omega (arith, double, pow_pos k)
+
+  ones : a ≡ y * 2 ^ (k + 1) + (2 ^ k - 1)
+  ones = omega (arith, one_more, pow_pos k)
+
+  apart : bit_and (2 ^ k - 1) (2 ^ k) ≡ 0
+  apart = and_comm (2 ^ k - 1) (2 ^ k) ∙ ap (λ (n : ℕ). bit_and n (2 ^ k - 1)) (sym (one-mul (2 ^ k)))
+      ∙ and_shifted 1 k (2 ^ k - 1) (omega (arith, pow_pos k))
+
+  -- the address and the next have in common what is above the ones and the zero bit
+  pub in_both : bit_and a (a + 1) ≡ y * 2 ^ (k + 1)
+  in_both = ap₂ bit_and ones one_more
+      ∙ and_block (k + 1) y y (2 ^ k - 1) (2 ^ k) (omega (arith, half)) half
+      ∙ (λ i. and_self y i * 2 ^ (k + 1) + apart i) ∙ omega arith
+
+  -- and in one of them, all ones below too
+  pub in_either : bit_or a (a + 1) + 1 ≡ (y + 1) * 2 ^ (k + 1)
+  in_either = ap (λ (n : ℕ). n + 1) (ap₂ bit_or ones one_more
+      ∙ or_block (k + 1) y y (2 ^ k - 1) (2 ^ k) (omega (arith, half)) half)
+      ∙ (λ i. or_self y i * 2 ^ (k + 1) + bit_or (2 ^ k - 1) (2 ^ k) + 1)
+      ∙ omega (arith, apart, or_add_and (2 ^ k - 1) (2 ^ k), double, pow_pos k)
+
+  pub either_small : bit_or a (a + 1) < 2 ^ 55
+  either_small = or_lt 55 a (a + 1) (omega arith) (omega arith)
+
+  four : 4 * 2 ^ (k + 1) ≡ 2 ^ (k + 3)
+  four = omega (arith, pow-add 2 k 3, pow-add 2 k 1)
+
+  pub start_is : 4 * bit_and a (a + 1) ≡ y * 2 ^ (k + 3)
+  start_is = omega (arith, in_both, ap (λ (n : ℕ). y * n) four)
+
+  pub end_is : 4 * (bit_or a (a + 1) + 1) ≡ y * 2 ^ (k + 3) + 2 ^ (k + 3)
+  end_is = omega (arith, in_either, ap (λ (n : ℕ). y * n) four, four)

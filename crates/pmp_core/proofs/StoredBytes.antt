@@ -46,7 +46,7 @@ matching_back matching = search rules
 pub configuration_back : (c : Configuration) → configuration_of (byte_of c) ≡ c
 configuration_back c = search (rules, tests, parts_back, bit_le, field_le, bit_back, matching_back)
 
-read_back : (byte : ℕ) → byte < 256 → (byte_of (configuration_of byte) == byte) ≡ is_plain byte
+pub read_back : (byte : ℕ) → byte < 256 → (byte_of (configuration_of byte) == byte) ≡ is_plain byte
 read_back byte small = grind (arith, nat_tests, common_steps, agree_below_at)
 
 read_unreserved : (byte : ℕ) → byte < 256

@@ -19,7 +19,8 @@ use Rattle.pmp_core.proofs.Configuring.{byte_within, high_of, low_of, most_bytes
 use Rattle.pmp_core.proofs.Legal.{configured_place, length-written}
 use Rattle.pmp_core.proofs.EachReason.{none_between, none_at, none_in, none_of, none_at_entry, none_at_entries, HasNone}
 use Rattle.pmp_core.proofs.StoredBytes.{is_plain, byte_plain, IsTaken, left_of, taken, stored_as_taken}
-use Rattle.pmp_core.proofs.WordBytes.{byte, byte_small, word_from, word_gives}
+use Rattle.pmp_core.specs.Bytes.{byte}
+use Rattle.pmp_core.proofs.WordBytes.{byte_small, word_from, word_gives}
 
 module _ (file : RegisterFile) (q value : ℕ) where
   abbrev n : ℕ

@@ -1,35 +1,36 @@
 -- Numbers that a write leaves.
 use borrow.Author.Tests.{tests}
 use Rattle.std.proofs.Common.{rules, ◌≡◌, ◌≢◌, ℕ, ◌+◌, ◌-◌, ◌*◌, ◌%◌, ◌<◌, ◌≤◌, true, false, List, length, slice_index}
-use Rattle.std.proofs.Common.{min, subst, get_or-set_other, get_or-set_same, length-set, refl, sym, ap, ◌∙◌, arith, inl, inr}
+use Rattle.std.proofs.Common.{cond, nat_lt, ◌&&◌, min, subst, get_or-set_other, get_or-set_same, length-set, refl, sym, ap, ◌∙◌, arith, inl, inr}
 use Rattle.std.proofs.Math.ListN.{set}
 use Rattle.std.proofs.Math.Nat.{mod-lt, mod-eq_of_lt}
 use Rattle.std.specs.Int.{w64, to_le_bytes}
-use Rattle.std.proofs.lemmas.Bool.{cases_lt, cases_eq}
+use Rattle.std.proofs.lemmas.Bool.{cases_Bool, cases_lt, cases_eq, le-ltb, lt-ltb}
 use Rattle.std.proofs.lemmas.List.FromFn.{fill_by_all, get_or-map-range_with_len}
 use Rattle.pmp_core.specs.declared.csr.Csr.TheVariants.{Cfg, Addr}
 use Rattle.pmp_core.specs.Entry.{Entry}
 use Rattle.pmp_core.specs.declared.event.Event.TheVariants.{Write}
 use Rattle.pmp_core.specs.declared.mseccfg.MseccfgFields.{MseccfgFields}
 use Rattle.pmp_core.specs.declared.saved_registers.SavedRegisters.{SavedRegisters}
-use Rattle.pmp_core.specs.Configuration.{Configuration, byte_of}
-use Rattle.pmp_core.specs.Hart.{bytes_in, word_addresses}
+use Rattle.pmp_core.specs.Configuration.{Configuration, byte_of, configuration_of}
+use Rattle.pmp_core.specs.Hart.{bytes_in, holds_byte_of, word_addresses}
 use Rattle.pmp_core.specs.Mseccfg.{mseccfg_fields, mseccfg_value}
 use Rattle.pmp_core.specs.RegisterFile.{RegisterFile, IsLegal, entry_at}
 use Rattle.pmp_core.specs.RegisterValue.{byte_in, configuration_word, register_value}
 use Rattle.pmp_core.specs.RegisterWrite.{configured, configurations_written, is_address_frozen, stored}
 use Rattle.pmp_core.specs.RegisterWrite.{written}
-use Rattle.pmp_core.specs.SavedRegisters.{fields_in, hart_in, hart_number, restored_entry, restored_file, saved_hart}
+use Rattle.pmp_core.specs.SavedRegisters.{fields_in, hart_in, hart_number, restored_entry, restored_file}
 use Rattle.pmp_core.specs.SavedRegisters.{saved_registers}
 use Rattle.pmp_core.proofs.Configuring.{byte_within, configured_at, held, kept_above, kept_below}
 use Rattle.pmp_core.proofs.Configuring.{most_bytes, none_above}
 use Rattle.pmp_core.proofs.Legal.{configured_place, length-written, step_legal, zero_fits}
 use Rattle.pmp_core.proofs.Locks.{configured_address, other_address}
 use Rattle.pmp_core.proofs.Places.{entries_by}
-use Rattle.pmp_core.proofs.Restored.{entry_in, entry_past, file_is, few_in, length_in, mseccfg_in, profile_in}
+use Rattle.pmp_core.proofs.Restored.{entry_in, entry_past, entry_seen, file_is, few_in, length_in, mseccfg_in, profile_in}
 use Rattle.pmp_core.proofs.Saved.{fields_back, restored_legal, stored_as_is}
 use Rattle.pmp_core.proofs.StoredBytes.{configuration_back}
-use Rattle.pmp_core.proofs.WordBytes.{byte, word_gives}
+use Rattle.pmp_core.specs.Bytes.{ArePut, byte}
+use Rattle.pmp_core.proofs.WordBytes.{word_gives}
 
 -- ---- numbers that a file is saved as
 
@@ -96,6 +97,25 @@ same_fields old new number mseccfg = rw (number, mseccfg) refl
 
 -- ---- a configuration register
 
+-- byte j of the register, of which the lowest ones are there, as the numbers keep it
+pub byte_kept : (saved : SavedRegisters) (file : RegisterFile) → restored_file saved ≡ file → (q j there : ℕ)
+    → (holds_byte_of file.profile q (4 * q + j) && nat_lt (4 * q + j) file.profile.entries) ≡ nat_lt j there
+    → cond (nat_lt j there) (byte_of (restored_entry saved (4 * q + j)).configuration) 0 ≡ byte_in file q (4 * q + j)
+byte_kept saved file is q j there so =
+    let i = 4 * q + j in
+    let count : length file.entries ≡ file.profile.entries =
+    ap (λ (f : RegisterFile). length f.entries) (sym is) ∙ (restored_legal saved).count
+    ∙ ap (λ (f : RegisterFile). f.profile.entries) is in
+    rw (← so) (elim (cases_Bool (holds_byte_of file.profile q i)) [
+      | inr other ↦ rw other refl
+      | inl holds ↦ rw holds (elim (cases_lt i file.profile.entries) [
+        | inl inside ↦ rw (lt-ltb i file.profile.entries inside)
+            (ap (λ (e : Entry). byte_of e.configuration) (entry_seen saved file is i (omega (arith, count))))
+        | inr past ↦ rw (le-ltb i file.profile.entries past)
+            (ap (λ (e : Entry). byte_of e.configuration) (sym (entry_past file i (omega (arith, count)))))
+      ])
+    ])
+
 pub byte_once : (one other : Configuration) → byte_of one ≡ byte_of other → one ≡ other
 byte_once one other same = search rules
 
@@ -104,6 +124,24 @@ pub word_bytes : (file : RegisterFile) (q word : ℕ) → configuration_word fil
 unfolding configuration_word
 word_bytes file q word same j near =
     word_gives (λ i. byte_in file q (4 * q + i)) word (λ i _. byte_within file q (4 * q + i)) same j near
+
+pub word_plain : (file : RegisterFile) (q word : ℕ) → word ≡ configuration_word file q → (j : ℕ) → j < 8
+    → byte_of (configuration_of (byte word j)) ≡ byte word j
+word_plain file q word is j near =
+    rw (word_bytes file q word (sym is) j near) (elim (cases_Bool (holds_byte_of file.profile q (4 * q + j))) [
+      | inl holds ↦ rw holds (ap byte_of (configuration_back (entry_at file.entries (4 * q + j)).configuration))
+      | inr other ↦ rw other refl
+    ])
+
+-- the byte of an entry says its configuration
+pub word_entry : (file : RegisterFile) (q word : ℕ) → word ≡ configuration_word file q → (j : ℕ) → j < 8
+    → j < bytes_in file.profile q
+    → configuration_of (byte word j) ≡ (entry_at file.entries (4 * q + j)).configuration
+word_entry file q word is j near there =
+    let c = (entry_at file.entries (4 * q + j)).configuration in
+    let own : byte_in file q (4 * q + j) ≡ byte_of c =
+    rw (held file.profile q (4 * q + j) (omega arith) (omega arith)) refl in
+    ap configuration_of (word_bytes file q word (sym is) j near ∙ own) ∙ configuration_back c
 
 module _ (file : RegisterFile) (q value : ℕ) where
   -- the byte at this place after the write
@@ -158,27 +196,23 @@ module _ (file : RegisterFile) (q value : ℕ) where
       → file ≡ written file (Cfg q) value
   reads_same same = ap (λ (entries : List Entry). record file { entries = entries }) (unchanged same)
 
--- of the bytes that are held those up to this one are written as configurations from the first on, and all else stands
-pub record AreWrittenTo (old new : SavedRegisters) (bytes : List ℕ) (first held index : ℕ) : Type 0 where
-  pub addresses : new.addresses ≡ old.addresses
-  pub mseccfg : new.mseccfg ≡ old.mseccfg
-  pub number : new.entries ≡ old.entries
-  pub most : index ≤ first + held
-  pub len : length new.configurations ≡ 64
-  pub done : (k : ℕ) → first ≤ k → k < index → slice_index new.configurations k ≡ slice_index bytes (k - first)
-  pub rest : (k : ℕ) → (first ≤ k → index ≤ k) → slice_index new.configurations k ≡ slice_index old.configurations k
+-- no entry's address is written
+pub kept_address : (file : RegisterFile) (q value k : ℕ)
+    → (entry_at (written file (Cfg q) value).entries k).address ≡ (entry_at file.entries k).address
+kept_address file q value k = elim (cases_lt k (length file.entries)) [
+  | inl inside ↦ ap (λ (e : Entry). e.address) (configured_place file q value k inside) ∙ configured_address file q value k
+  | inr past ↦ ap (λ (e : Entry). e.address)
+      (entry_past (written file (Cfg q) value) k (omega (arith, length-written file (Cfg q) value))
+      ∙ sym (entry_past file k past))
+]
 
-pub written_more : (old new : SavedRegisters) (bytes : List ℕ) (first held index : ℕ) → held ≤ 8 → first ≤ index
-    → index < first + held → index < 64 → AreWrittenTo old new bytes first held index
-    → AreWrittenTo old (record new {
-      configurations = set new.configurations index (slice_index bytes (index - first));
-    }) bytes first held (index + 1)
-written_more old new bytes first held index few from near inside so_far = search rules
-
-module _ (old new : SavedRegisters) (q value word end : ℕ)
+module _ (old : SavedRegisters) (bytes : List ℕ) (q value word count : ℕ)
     (is : configuration_word (written (restored_file old) (Cfg q) value) q ≡ word)
-    (all : min (length (restored_file old).entries) (4 * q + bytes_in (restored_file old).profile q) ≤ end)
-    (done : AreWrittenTo old new (to_le_bytes w64 word) (4 * q) (bytes_in (restored_file old).profile q) end) where
+    (counted : count ≡ min (length (restored_file old).entries - 4 * q) (bytes_in (restored_file old).profile q))
+    (done : ArePut old.configurations bytes (4 * q) word count) where
+  abbrev pub with_bytes : SavedRegisters
+  with_bytes = record old { configurations = bytes }
+
   abbrev before : RegisterFile
   before = restored_file old
 
@@ -188,63 +222,72 @@ module _ (old new : SavedRegisters) (q value word end : ℕ)
   legal : IsLegal after
   legal = step_legal before (restored_legal old) (Write (Cfg q) value)
 
-  hart : hart_in new ≡ after.profile
-  hart = ap saved_hart done.number ∙ sym (profile_in old)
-
-  fields : fields_in new ≡ after.mseccfg
-  fields = same_fields old new done.number done.mseccfg ∙ sym (mseccfg_in old)
+  few : count ≤ 8
+  few = omega (arith, counted, most_bytes before.profile q)
 
   -- an entry of which the register holds nothing
-  other : (k : ℕ) → (4 * q ≤ k → end ≤ k) → entry_at after.entries k ≡ entry_at before.entries k
+  other : (k : ℕ) → (4 * q ≤ k → 4 * q + count ≤ k) → entry_at after.entries k ≡ entry_at before.entries k
   other k outside = elim (cases_lt k (length before.entries)) [
     | inl inside ↦ configured_place before q value k inside ∙ elim (cases_lt k (4 * q)) [
       | inl below ↦ kept_below before q value k below
-      | inr low ↦ kept_above before q value k (omega (arith, outside low))
+      | inr low ↦ kept_above before q value k (omega (arith, outside low, counted))
     ]
     | inr past ↦ entry_past after k (omega (arith, length-written before (Cfg q) value))
         ∙ sym (entry_past before k past)
   ]
 
-  own_byte : (k : ℕ) → 4 * q ≤ k → k < end
-      → slice_index new.configurations k ≡ byte_of (entry_at after.entries k).configuration
+  own_byte : (k : ℕ) → 4 * q ≤ k → k < 4 * q + count
+      → slice_index bytes k ≡ byte_of (entry_at after.entries k).configuration
   own_byte k low high =
       let place : 4 * q + (k - 4 * q) ≡ k = omega arith in
-      done.done k low high ∙ word_bytes after q word is (k - 4 * q) (omega (arith, done.most, most_bytes before.profile q))
-      ∙ ap (byte_in after q) place ∙ rw (held before.profile q k low (omega (arith, done.most))) refl
+      done.put k low high ∙ word_bytes after q word is (k - 4 * q) (omega (arith, few))
+      ∙ ap (byte_in after q) place ∙ rw (held before.profile q k low (omega (arith, counted))) refl
 
   address : (k : ℕ) → (entry_at after.entries k).address ≡ (entry_at before.entries k).address
-  address k = elim (cases_lt k (length before.entries)) [
-    | inl inside ↦ ap (λ (e : Entry). e.address) (configured_place before q value k inside)
-        ∙ configured_address before q value k
-    | inr past ↦ ap (λ (e : Entry). e.address) (entry_past after k (omega (arith, length-written before (Cfg q) value))
-        ∙ sym (entry_past before k past))
-  ]
+  address k = kept_address before q value k
 
   own_address : (k : ℕ) → k < length before.entries
-      → slice_index new.addresses k % word_addresses (hart_in new) ≡ (entry_at after.entries k).address
-  own_address k inside = search (rules, tests, done, entry_in, address)
+      → slice_index old.addresses k % word_addresses (hart_in old) ≡ (entry_at after.entries k).address
+  own_address k inside = search (rules, tests, entry_in, address)
 
-  each : (k : ℕ) → k < length after.entries → entry_at after.entries k ≡ restored_entry new k
+  each : (k : ℕ) → k < length after.entries → entry_at after.entries k ≡ restored_entry with_bytes k
   each k there =
       let inside : k < length before.entries = omega (arith, length-written before (Cfg q) value) in
-      let stays : (4 * q ≤ k → end ≤ k) → entry_at after.entries k ≡ restored_entry new k = λ outside.
-      other k outside ∙ entry_in old k inside ∙ sym (same_entry old new done.number done.mseccfg k (done.rest k outside)
-      (ap (λ (xs : List ℕ). slice_index xs k) done.addresses)) in
+      let stays : (4 * q ≤ k → 4 * q + count ≤ k) → entry_at after.entries k ≡ restored_entry with_bytes k = λ outside.
+      other k outside ∙ entry_in old k inside
+      ∙ sym (same_entry old with_bytes refl refl k (done.kept k outside) refl) in
       elim (cases_lt k (4 * q)) [
         | inl below ↦ stays (λ low. absurd (omega arith))
-        | inr low ↦ elim (cases_lt k end) [
-          | inl high ↦ sym (entry_by new after legal hart fields k (own_byte k low high) (own_address k inside))
+        | inr low ↦ elim (cases_lt k (4 * q + count)) [
+          | inl high ↦ sym (entry_by with_bytes after legal (sym (profile_in old)) (sym (mseccfg_in old)) k
+              (own_byte k low high) (own_address k inside))
           | inr past ↦ stays (λ _. past)
         ]
       ]
 
-  pub configurations_restored : restored_file new ≡ after
-  configurations_restored = file_is new after hart fields legal.count each
+  pub configurations_restored : restored_file with_bytes ≡ after
+  configurations_restored = file_is with_bytes after (sym (profile_in old)) (sym (mseccfg_in old)) legal.count each
 
-  pub configurations_canonical : length old.addresses ≡ 64 → saved_registers before ≡ old
-      → saved_registers (restored_file new) ≡ new
-  configurations_canonical long canonical =
-      search (rules, tests, kept_in, configurations_restored, saved_by, done, address, other, own_byte)
+  pub configurations_canonical : length old.addresses ≡ 64 → length old.configurations ≡ 64 → saved_registers before ≡ old
+      → saved_registers (restored_file with_bytes) ≡ with_bytes
+  configurations_canonical long wide canonical =
+      let numbers = kept_in old before canonical in
+      let stays : (k : ℕ) → k < 64 → (4 * q ≤ k → 4 * q + count ≤ k)
+      → slice_index bytes k ≡ byte_of (entry_at after.entries k).configuration = λ k below outside.
+      done.kept k outside ∙ numbers.configurations k below
+      ∙ ap (λ (e : Entry). byte_of e.configuration) (sym (other k outside)) in
+      ap saved_registers configurations_restored ∙ saved_by with_bytes after long (done.long ∙ wide) (record {
+        addresses = λ k below. numbers.addresses k below ∙ sym (address k);
+        configurations = λ k below. elim (cases_lt k (4 * q)) [
+          | inl under ↦ stays k below (λ low. absurd (omega arith))
+          | inr low ↦ elim (cases_lt k (4 * q + count)) [
+            | inl high ↦ own_byte k low high
+            | inr past ↦ stays k below (λ _. past)
+          ]
+        ];
+        mseccfg = numbers.mseccfg;
+        number = numbers.number;
+      })
 
 -- ---- an address register
 

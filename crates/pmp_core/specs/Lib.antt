@@ -1,6 +1,7 @@
 -- What a reader must trust: the manual's rules.
 pub mod Access
 pub mod Csr
+pub mod Bytes
 pub mod Configuration
 pub mod Entry
 pub mod Hart

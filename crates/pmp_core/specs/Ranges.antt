@@ -34,11 +34,14 @@ range_by grain Tor low address = record { start = 4 * tor_address grain low; end
 range_by grain Na4 low address = record { start = 4 * address; end = 4 * address + 4 }
 range_by grain Napot low address = napot_range (napot_address grain address)
 
+-- entry i's range on this hart, if its field A were this
+abbrev pub range_as : Profile → List Entry → AddressMatching → ℕ → ByteRange
+range_as profile entries matching i =
+    range_by profile.grain matching (low_address entries i) (entry_at entries i).address
+
 -- entry i's range on this hart
 unfoldable pub range_on : Profile → List Entry → ℕ → ByteRange
-range_on profile entries i =
-    let entry = entry_at entries i in
-    range_by profile.grain entry.configuration.matching (low_address entries i) entry.address
+range_on profile entries i = range_as profile entries (entry_at entries i).configuration.matching i
 
 abbrev pub ranges_on : Profile → List Entry → List ByteRange
 ranges_on profile entries = map (range_on profile entries) (range_with_len 0 (length entries))

@@ -1,16 +1,18 @@
 -- Why a register doesn't read what was written to it (Volume II, 3.7.1, 3.7.1.2 and Smepmp).
-use Rattle.std.specs.Prelude.{ℕ, ◌+◌, ◌-◌, ◌*◌, ◌/◌, ◌%◌, ◌==◌, nat_lt, Bool, false, not, ◌&&◌, ◌||◌}
+use Rattle.std.specs.Prelude.{◌≡◌, ℕ, ◌+◌, ◌-◌, ◌*◌, ◌/◌, ◌%◌, ◌<◌, ◌≤◌, ◌==◌, nat_lt, Bool, false, not, ◌&&◌, ◌||◌}
 use Rattle.std.specs.Prelude.{List, [], ◌∷◌, length, map, slice_index}
 use Rattle.std.specs.List.{range_with_len, list_any, filter}
 use Rattle.std.specs.Int.{w64, to_le_bytes}
 use Rattle.pmp_core.specs.declared.csr.Csr.{Csr}
 use Rattle.pmp_core.specs.declared.csr.Csr.TheVariants.{Cfg, Addr, Mseccfg, Mseccfgh}
 use Rattle.pmp_core.specs.declared.mseccfg.MseccfgFields.{MseccfgFields}
+use Rattle.pmp_core.specs.declared.write_reasons.EntryReasons.{EntryReasons}
 use Rattle.pmp_core.specs.declared.write_reasons.Reasons.{Reasons}
 use Rattle.pmp_core.specs.declared.write_reasons.WriteReason.{WriteReason}
 use Rattle.pmp_core.specs.declared.write_reasons.WriteReason.TheVariants.{Absent, Bits, Frozen, Tor, Reserved, Lockdown}
 use Rattle.pmp_core.specs.declared.write_reasons.WriteReason.TheVariants.{Sticky, Bypass, Grain}
 use Rattle.pmp_core.specs.declared.register_write.TheConstants.{ENTRIES_PER_CFG}
+use Rattle.pmp_core.specs.Bytes.{byte}
 use Rattle.pmp_core.specs.Configuration.{bit_of, configuration_of, byte_of, is_reserved}
 use Rattle.pmp_core.specs.Grain.{is_na4, read_address}
 use Rattle.pmp_core.specs.declared.hart.Profile.{Profile}
@@ -135,6 +137,21 @@ sets_bypass file _ value = false
 abbrev pub is_some_entry_reason : WriteReason → RegisterFile → Csr → (value : ℕ) → Bool
 is_some_entry_reason reason file csr value =
     list_any (is_entry_reason reason file csr value) (range_with_len 0 (length file.entries))
+
+-- byte j of the word isn't zero exactly if there is an entry first + j and it has the reason; no entry beside has it
+pub record Marks (word first : ℕ) (reason : WriteReason) (file : RegisterFile) (csr : Csr) (value : ℕ) : Type 0 where
+  pub there : (j : ℕ) → j < 8 → not (byte word j == 0)
+      ≡ (nat_lt (first + j) (length file.entries) && is_entry_reason reason file csr value (first + j))
+  pub beside : (i : ℕ) → i < length file.entries → (first ≤ i → first + 8 ≤ i)
+      → is_entry_reason reason file csr value i ≡ false
+
+-- the words of the five
+pub record AreMarked (found : EntryReasons) (file : RegisterFile) (csr : Csr) (value : ℕ) : Type 0 where
+  pub frozen : Marks found.frozen found.first Frozen file csr value
+  pub tor : Marks found.tor found.first Tor file csr value
+  pub reserved : Marks found.reserved found.first Reserved file csr value
+  pub lockdown : Marks found.lockdown found.first Lockdown file csr value
+  pub grain : Marks found.grain found.first Grain file csr value
 
 -- whether this is a reason why the register doesn't read the value
 abbrev pub is_reason : WriteReason → RegisterFile → Csr → (value : ℕ) → Bool

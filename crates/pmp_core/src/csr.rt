@@ -40,9 +40,9 @@ impl Csr {
         ensures { result ≡ numbered_on is_rv32 number }
     {
         match number {
+            0x3B0..=0x3EF => Ok(Csr::Addr((number - 0x3B0) as u8)),
             0x3A0..=0x3AF if !is_rv32 && number % 2 == 1 => Err(CsrFault::OddCfg),
             0x3A0..=0x3AF => Ok(Csr::Cfg((number - 0x3A0) as u8)),
-            0x3B0..=0x3EF => Ok(Csr::Addr((number - 0x3B0) as u8)),
             0x747 => Ok(Csr::Mseccfg),
             _ if is_rv32 && number == 0x757 => Ok(Csr::Mseccfgh),
             _ => Err(CsrFault::NotPmp),

@@ -10,6 +10,7 @@ ghost use Rattle.pmp_core.specs.Rights.{perms_of};
 ghost use Rattle.pmp_core.specs.SavedRegisters.{restored_file};
 
 use crate::access::{Access, Kind, Mode};
+use crate::configuration::AddressMatching;
 use crate::perms::Perms;
 use crate::registers::Registers;
 use crate::saved_registers::SavedRegisters;
@@ -67,14 +68,24 @@ impl<'a> Registers<'a> {
         ensures entry { (i : ℕ) → result ≡ Cause.Rule i → i < length self.now.entries }
         ensures legal { IsLegal self.now }
     {
-        for index in 0..self.count() {
-            let range = self.range(index);
-            if range.is_touched(start, end) {
-                return if range.is_covered(start, end) {
-                    Cause::Rule(index as u8)
-                } else {
-                    Cause::Split(index as u8)
-                };
+        let _count = self.count();
+        if start >= end {
+            return Cause::NoMatch;
+        }
+        let mut index = 0;
+        while index < self.count() {
+            if self.matching(index) == AddressMatching::Off {
+                index += self.count_off(index);
+            } else {
+                let range = self.range(index);
+                if range.is_touched(start, end) {
+                    return if range.is_covered(start, end) {
+                        Cause::Rule(index as u8)
+                    } else {
+                        Cause::Split(index as u8)
+                    };
+                }
+                index += 1;
             }
         }
         Cause::NoMatch

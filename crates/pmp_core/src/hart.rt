@@ -69,11 +69,11 @@ impl Model for Hart {
 }
 
 impl Hart {
-    ghost use Rattle.std.specs.Prelude.{◌+◌, ◌*◌, ◌/◌, ◌^◌};
+    ghost use Rattle.std.specs.Prelude.{◌+◌, ◌-◌, ◌*◌, ◌/◌, ◌^◌, ◌&&◌, ℕ, min, nat_lt};
     ghost use Rattle.pmp_core.specs.SavedRegisters.{is_usual, hart_number, names_hart, saved_hart, spelled_hart, spells_hart};
     ghost use Rattle.pmp_core.specs.Grain.{napot_address, read_address, tor_address};
     ghost use Rattle.pmp_core.specs.Csr.{numbered_on};
-    ghost use Rattle.pmp_core.specs.Hart.{bytes_in, hart_fault, profile_of, word_addresses};
+    ghost use Rattle.pmp_core.specs.Hart.{bytes_in, hart_fault, holds_byte_of, profile_of, word_addresses};
 
     /// Returns the hart of this profile. Entries, grain and address bits are tested in this order.
     pub fn new(profile: Profile) -> Result<Hart, HartFault>
@@ -143,6 +143,20 @@ impl Hart {
         } else {
             0
         }
+    }
+
+    /// Returns how many bytes of the configuration register belong to entries of the hart. They are its lowest ones.
+    #[inline(always)]
+    pub(crate) fn bytes_there(&self, register: u8) -> usize
+        ensures there { (j : ℕ) → j < ENTRIES_PER_CFG → (holds_byte_of self.now register (4 * register + j)
+            && nat_lt (4 * register + j) self.now.entries) ≡ nat_lt j result }
+        ensures most { result ≤ ENTRIES_PER_CFG }
+        ensures count { result ≡ min (self.now.entries - 4 * register) (bytes_in self.now register) }
+    {
+        let first = 4 * usize::from(register);
+        usize::from(self.entries())
+            .saturating_sub(first)
+            .min(self.bytes_in(register))
     }
 
     /// Whether `of` returns this hart. RV32 has no addresses that wide.

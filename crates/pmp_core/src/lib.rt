@@ -6,6 +6,7 @@
 
 mod access;
 mod configuration;
+mod configuration_word;
 mod csr;
 mod decision;
 mod event;

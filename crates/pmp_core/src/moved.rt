@@ -1,14 +1,19 @@
 //! The bytes that a change of the registers may have moved.
 
-ghost use Rattle.std.specs.Prelude.{◌≡◌, ◌⊎◌, ◌<◌, ◌+◌, ◌^◌, ℕ, IsTrue, None, Some, false, length};
+ghost use Rattle.std.specs.Prelude.{◌≡◌, ◌⊎◌, ◌<◌, ◌+◌, ◌^◌, ℕ, IsTrue, None, Some, false, true, length};
 ghost use Rattle.pmp_core.specs.declared.csr.Csr.{Csr};
 ghost use Rattle.pmp_core.specs.Moved.{AreAlikeBeside, joined, moved_among, moved_at, moved_between, moved_by};
-ghost use Rattle.pmp_core.specs.RegisterWrite.{written};
-ghost use Rattle.pmp_core.specs.Ranges.{range_of};
+ghost use Rattle.pmp_core.specs.declared.range.ByteRange.{ByteRange};
+ghost use Rattle.pmp_core.specs.RegisterWrite.{is_tor, written};
+ghost use Rattle.pmp_core.specs.Ranges.{range_as, range_of};
+ghost use Rattle.pmp_core.specs.RegisterFile.{RegisterFile, entry_at};
+ghost use Rattle.pmp_core.specs.RegisterValue.{register_value};
+ghost use Rattle.pmp_core.specs.Span.{span_in};
 ghost use Rattle.pmp_core.specs.SavedRegisters.{hart_in, restored_file};
 ghost use Rattle.pmp_core.specs.Writing.{IsWritten};
 
 use crate::access::ADDRESS_LIMIT;
+use crate::configuration::{AddressMatching, Configuration};
 use crate::csr::Csr;
 use crate::hart::Hart;
 use crate::range::ByteRange;
@@ -48,22 +53,6 @@ fn moved_between(now: &ByteRange, before: &ByteRange) -> Option<Span>
 }
 
 impl<'a> Registers<'a> {
-    /// Whether neither the entry nor the address register before it was changed.
-    #[inline(always)]
-    fn keeps(&self, before: &Registers<'_>, index: usize) -> bool
-        requires now { index < length self.now.entries }
-        requires before { index < length before.now.entries }
-        requires hart { self.now.profile ≡ before.now.profile }
-        requires mseccfg { self.now.mseccfg ≡ before.now.mseccfg }
-        ensures { IsTrue result → moved_at before.now self.now index ≡ None }
-    {
-        self.has_same_numbers(before, index)
-            && match index.checked_sub(1) {
-                Some(low) => self.has_same_address(before, low),
-                None => true,
-            }
-    }
-
     /// Returns what the entry matches now or matched before, unless it is the same.
     #[inline(always)]
     fn moved_at(&self, before: &Registers<'_>, index: usize) -> Option<Span>
@@ -73,9 +62,6 @@ impl<'a> Registers<'a> {
         requires mseccfg { self.now.mseccfg ≡ before.now.mseccfg }
         ensures { result ≡ moved_at before.now self.now index }
     {
-        if self.keeps(before, index) {
-            return None;
-        }
         let _counts = (self.count(), before.count());
         let (range, was) = (self.range(index), before.range(index));
         if self.configuration(index) == before.configuration(index) {
@@ -85,67 +71,46 @@ impl<'a> Registers<'a> {
         }
     }
 
-    /// Returns what `count` entries from the first on match now or matched before, without those that are the same.
+    /// Returns what the entry would match with one mode or the other.
     #[inline(always)]
-    fn moved_among(&self, before: &Registers<'_>, first: usize, count: usize) -> Option<Span>
-        requires end { first + count < 2 ^ 64 }
-        requires count { length self.now.entries ≡ length before.now.entries }
-        requires hart { self.now.profile ≡ before.now.profile }
-        requires mseccfg { self.now.mseccfg ≡ before.now.mseccfg }
-        ensures { result ≡ moved_among before.now self.now first count }
+    fn span_of_both(
+        &self,
+        index: usize,
+        one: AddressMatching,
+        other: AddressMatching,
+    ) -> Option<Span>
+        requires { index < length self.now.entries }
+        ensures { let file = self.now in result ≡ joined (span_in (range_as file.profile file.entries one index))
+            (span_in (range_as file.profile file.entries other index)) }
     {
+        let span = span_in(&self.range_by(index, one));
+        if one == other {
+            return span;
+        }
+        joined(span, span_in(&self.range_by(index, other)))
+    }
+
+    /// Returns what the entries of the configuration register match now or matched when it read this word, without those
+    /// that are the same.
+    #[inline(always)]
+    fn moved_from(&self, register: u8, old: u64) -> Option<Span>
+        ensures { (before : RegisterFile) (value : ℕ) → let csr = Csr.Cfg register in
+            self.now ≡ written before csr value → old ≡ register_value before csr
+            → result ≡ moved_by before self.now csr }
+    {
+        let was = old.to_le_bytes();
+        let is = self.configuration_word(register).to_le_bytes();
         let mut moved = None;
-        for place in 0..count {
-            let index = first + place;
-            let more = if index < self.count() {
-                self.moved_at(before, index)
-            } else {
-                None
-            };
-            moved = joined(moved, more);
+        for place in 0..self.hart().bytes_in(register) {
+            let index = 4 * usize::from(register) + place;
+            if is[place] != was[place] && index < self.count() {
+                let one = Configuration::from_byte(is[place]).matching();
+                let other = Configuration::from_byte(was[place]).matching();
+                let more = self.span_of_both(index, one, other);
+                moved = joined(moved, more);
+            }
         }
         moved
-    }
-
-    /// Returns what the entries moved by a write to this register match now or matched before, or all bytes.
-    #[inline(always)]
-    fn moved_by(&self, before: &Registers<'_>, csr: Csr) -> Option<Span>
-        requires { (value : ℕ) × (self.now ≡ written before.now csr value) }
-        ensures { result ≡ moved_by before.now self.now csr }
-    {
-        match csr {
-            Csr::Cfg(register) => {
-                let bytes = before.hart().bytes_in(register);
-                self.moved_among(before, 4 * usize::from(register), bytes)
-            }
-            Csr::Addr(register) => self.moved_among(before, usize::from(register), 2),
-            Csr::Mseccfg => self.moved_by_fields(before),
-            Csr::Mseccfgh => None,
-        }
-    }
-
-    /// Returns all bytes if `mseccfg` changed.
-    #[inline(always)]
-    #[tactic(auto, unfolding(crate::specs::Moved::moved_by))]
-    fn moved_by_fields(&self, before: &Registers<'_>) -> Option<Span>
-        ensures { result ≡ moved_by before.now self.now Csr.Mseccfg }
-    {
-        if self.read(Csr::Mseccfg) == before.read(Csr::Mseccfg) {
-            return None;
-        }
-        Some(ALL)
-    }
-
-    /// Returns the same as `moved_since` if one write to this register lies between: it looks only at the entries that
-    /// the register may move.
-    #[inline(always)]
-    pub fn moved_by_write(&self, before: &Registers<'_>, csr: Csr) -> Option<Span>
-        requires { (value : ℕ) × (self.now ≡ written before.now csr value) }
-        ensures moved { result ≡ moved_by before.now self.now csr }
-        ensures beside { AreAlikeBeside before.now self.now result }
-    {
-        let _count = before.count();
-        self.moved_by(before, csr)
     }
 
     /// Returns the first and the last byte that may be decided differently than by the registers before: the span of
@@ -182,6 +147,23 @@ impl<'a> Registers<'a> {
             ByteRange::EMPTY
         }
     }
+
+    /// Returns the range that the entry matches by TOR, if there is such an entry and it does.
+    #[inline(always)]
+    fn tor_range_if_any(&self, index: usize) -> ByteRange
+        ensures tor { is_tor (entry_at self.now.entries index).configuration.matching ≡ true
+            → result ≡ range_of self.now index }
+        ensures other { is_tor (entry_at self.now.entries index).configuration.matching ≡ false
+            → result ≡ (let none : ByteRange = record { start = 0; end = 0 } in none) }
+    {
+        if index < self.count() {
+            let matching = self.matching(index);
+            if matching == AddressMatching::Tor {
+                return self.range_by(index, matching);
+            }
+        }
+        ByteRange::EMPTY
+    }
 }
 
 impl SavedRegisters {
@@ -200,7 +182,10 @@ impl SavedRegisters {
     {
         let index = usize::from(register);
         let before = Registers::with(self, hart);
-        let (own, next) = (before.range_if_any(index), before.range_if_any(index + 1));
+        let (own, next) = (
+            before.range_if_any(index),
+            before.tor_range_if_any(index + 1),
+        );
         let written = self.write_address(hart, register, value);
         if !written.is_changed {
             return (written, None);
@@ -208,12 +193,12 @@ impl SavedRegisters {
         let now = Registers::with(self, hart);
         let moved = joined(
             moved_between(&now.range_if_any(index), &own),
-            moved_between(&now.range_if_any(index + 1), &next),
+            moved_between(&now.tor_range_if_any(index + 1), &next),
         );
         (written, moved)
     }
 
-    /// Writes a configuration register, and compares its entries with the former ones.
+    /// Writes a configuration register, which moves no address.
     #[inline(always)]
     fn write_configurations_moved(
         &mut self,
@@ -226,14 +211,30 @@ impl SavedRegisters {
         ensures moved { let csr = Csr.Cfg register in
             result.1 ≡ moved_by (restored_file self.old) (restored_file self.new) csr }
     {
-        let before = *self;
+        let old = Registers::with(self, hart).configuration_word(register);
         let written = self.write_configurations(hart, register, value);
         if !written.is_changed {
             return (written, None);
         }
         let now = Registers::with(self, hart);
-        let moved = now.moved_by_write(&Registers::with(&before, hart), Csr::Cfg(register));
-        (written, moved)
+        (written, now.moved_from(register, old))
+    }
+
+    /// Writes `mseccfg`, which moves all bytes where it changes.
+    fn write_mseccfg_moved(&mut self, hart: Hart, value: u64) -> (Written, Option<Span>)
+        requires { hart ≡ hart_in self.old }
+        ensures written { IsWritten self.old self.new Csr.Mseccfg value result.0 }
+        ensures moved { let csr = Csr.Mseccfg in
+            result.1 ≡ moved_by (restored_file self.old) (restored_file self.new) csr }
+    {
+        let before = Registers::with(self, hart);
+        let old = before.read(Csr::Mseccfg);
+        let written = self.write_mseccfg(hart, value);
+        let now = Registers::with(self, hart);
+        if now.read(Csr::Mseccfg) == old {
+            return (written, None);
+        }
+        (written, Some(ALL))
     }
 
     /// Writes any register of any hart.
@@ -243,18 +244,19 @@ impl SavedRegisters {
         ensures written { IsWritten self.old self.new csr value result.0 }
         ensures moved { result.1 ≡ moved_by (restored_file self.old) (restored_file self.new) csr }
     {
-        let before = *self;
-        let written = self.write(csr, value);
-        if !written.is_changed {
-            return (written, None);
+        let hart = Hart::from_number(self.entries);
+        match csr {
+            Csr::Addr(register) => self.write_address_moved(hart, register, value),
+            Csr::Cfg(register) => self.write_configurations_moved(hart, register, value),
+            Csr::Mseccfg => self.write_mseccfg_moved(hart, value),
+            Csr::Mseccfgh => (self.write_mseccfgh(hart, value), None),
         }
-        let moved = Registers::of(self).moved_by_write(&Registers::of(&before), csr);
-        (written, moved)
     }
 
     /// Writes a register, and also returns which bytes may be decided differently than before, as
     /// `Registers::moved_since` does, for the entries that the register may move. None if nothing changed, or if those
     /// that changed match no byte before and after. The entries of a standard hart are written in place.
+    #[inline(always)]
     pub fn write_moved(&mut self, csr: Csr, value: u64) -> (Written, Option<Span>)
         ensures written { IsWritten self.old self.new csr value result.0 }
         ensures moved { result.1 ≡ moved_by (restored_file self.old) (restored_file self.new) csr }

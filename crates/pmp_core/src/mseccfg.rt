@@ -1,6 +1,6 @@
 //! The bits of `mseccfg` (Smepmp).
 
-ghost use Rattle.std.specs.Prelude.{⊤, ◌≡◌, [], ◌∷◌, codes};
+ghost use Rattle.std.specs.Prelude.{⊤, ◌≡◌, ◌&&◌, not, [], ◌∷◌, codes};
 ghost use Rattle.pmp_core.specs.Mseccfg.{mseccfg_value, mseccfg_fields};
 
 use bitflags::{Flag, Flags, bitflag_items};
@@ -57,6 +57,14 @@ impl MseccfgFields {
         mmwp: false,
         rlb: false,
     };
+
+    /// Whether no write may add a rule by which M-mode executes.
+    #[inline(always)]
+    pub fn is_lockdown(self) -> bool
+        ensures { result ≡ (self.mml && not self.rlb) }
+    {
+        self.mml && !self.rlb
+    }
 
     /// Returns the register's value.
     pub fn value(self) -> u64

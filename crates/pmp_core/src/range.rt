@@ -2,11 +2,10 @@
 
 ghost use Rattle.std.specs.Prelude.{◌≡◌, ◌<◌, ◌↔◌, IsTrue, length};
 ghost use Rattle.pmp_core.specs.Matching.{low_address};
-ghost use Rattle.pmp_core.specs.Ranges.{IsInRange, napot_range, range_by, range_of, is_touched, is_covered};
+ghost use Rattle.pmp_core.specs.Ranges.{IsInRange, napot_range, range_as, range_of, is_touched, is_covered};
 ghost use Rattle.pmp_core.specs.declared.register_write.TheConstants.{WORD_ADDRESSES};
 
 use crate::configuration::AddressMatching;
-use crate::hart::Hart;
 use crate::registers::Registers;
 
 /// The byte addresses from `start` up to, but not including, `end`: none if `end` isn't above `start`.
@@ -26,10 +25,11 @@ impl ByteRange {
     }
 
     /// Whether it has one of the bytes from `start` up to, but not including, `end`.
+    #[inline(always)]
     pub fn is_touched(&self, start: u64, end: u64) -> bool
         ensures { result ≡ is_touched start end self.now }
     {
-        self.start.max(start) < self.end.min(end)
+        start < self.end && self.start < end && self.start < self.end && start < end
     }
 
     /// Whether it has all of them.
@@ -41,35 +41,15 @@ impl ByteRange {
 }
 
 /// Returns the naturally aligned power of two that the word address encodes.
+#[inline(always)]
 fn napot_range(address: u64) -> ByteRange
     requires { address < WORD_ADDRESSES }
     ensures { result ≡ napot_range address }
 {
-    let ones = address.trailing_ones();
-    let start = (address >> (ones + 1)) << (ones + 3);
+    let above = address + 1;
     ByteRange {
-        start,
-        end: start + (1 << (ones + 3)),
-    }
-}
-
-/// Returns the range of an entry with this mode and address, if the address before it is `low`.
-pub fn range_by(hart: Hart, matching: AddressMatching, low: u64, address: u64) -> ByteRange
-    requires low { low < WORD_ADDRESSES }
-    requires address { address < WORD_ADDRESSES }
-    ensures { result ≡ range_by hart.grain matching low address }
-{
-    match matching {
-        AddressMatching::Off => ByteRange::EMPTY,
-        AddressMatching::Tor => ByteRange {
-            start: 4 * hart.tor_address(low),
-            end: 4 * hart.tor_address(address),
-        },
-        AddressMatching::Na4 => ByteRange {
-            start: 4 * address,
-            end: 4 * address + 4,
-        },
-        AddressMatching::Napot => napot_range(hart.napot_address(address)),
+        start: (address & above) << 2,
+        end: ((address | above) + 1) << 2,
     }
 }
 
@@ -88,13 +68,36 @@ impl<'a> Registers<'a> {
         }
     }
 
+    /// Returns the range that the entry would match with this mode. The address before it is read for TOR alone.
+    #[inline(always)]
+    pub(crate) fn range_by(&self, index: usize, matching: AddressMatching) -> ByteRange
+        requires { index < length self.now.entries }
+        ensures { result ≡ range_as self.now.profile self.now.entries matching index }
+    {
+        let address = self.address(index);
+        if matching == AddressMatching::Napot {
+            napot_range(self.hart().napot_address(address))
+        } else if matching == AddressMatching::Tor {
+            ByteRange {
+                start: 4 * self.hart().tor_address(self.low_address(index)),
+                end: 4 * self.hart().tor_address(address),
+            }
+        } else if matching == AddressMatching::Na4 {
+            ByteRange {
+                start: 4 * address,
+                end: 4 * address + 4,
+            }
+        } else {
+            ByteRange::EMPTY
+        }
+    }
+
     /// Returns the range that the entry matches.
     #[inline(always)]
     pub fn range(&self, index: usize) -> ByteRange
         requires { index < length self.now.entries }
         ensures { result ≡ range_of self.now index }
     {
-        let low = self.low_address(index);
-        range_by(self.hart(), self.matching(index), low, self.address(index))
+        self.range_by(index, self.matching(index))
     }
 }

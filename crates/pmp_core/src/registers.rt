@@ -1,6 +1,7 @@
 //! A unit's registers for reading: a view of the plain numbers that keep them.
 
-ghost use Rattle.std.specs.Prelude.{◌≡◌, ◌+◌, ◌*◌, ◌/◌, ◌^◌, ◌<◌, ◌≤◌, IsTrue, MatchOption, length};
+ghost use Rattle.std.specs.Prelude.{◌≡◌, ◌+◌, ◌/◌, ◌^◌, ◌<◌, ◌≤◌, ℕ, IsTrue, MatchOption, length};
+ghost use Rattle.pmp_core.specs.declared.configuration.AddressMatching.{AddressMatching};
 ghost use Rattle.pmp_core.specs.declared.csr.Csr.{Csr};
 ghost use Rattle.pmp_core.specs.declared.register_write.TheConstants.{ENTRIES_PER_CFG, WORD_ADDRESSES};
 ghost use Rattle.pmp_core.specs.Grain.{read_address};
@@ -12,6 +13,7 @@ ghost use Rattle.pmp_core.specs.RegisterWrite.{is_address_frozen, is_any_locked}
 ghost use Rattle.pmp_core.specs.SavedRegisters.{hart_in, restored_file};
 
 use crate::configuration::{AddressMatching, Configuration};
+use crate::configuration_word::{count_off, eight_from, lowest, stored_over};
 use crate::csr::Csr;
 use crate::hart::Hart;
 use crate::lock::Lock;
@@ -69,6 +71,14 @@ impl<'a> Registers<'a> {
     {
         let hart = Hart::standard(numbers.entries)?;
         Some(Registers::with(numbers, hart))
+    }
+
+    /// Returns the numbers that keep them.
+    #[inline(always)]
+    pub(crate) fn numbers(&self) -> &'a SavedRegisters
+        ensures { restored_file result.now ≡ self.now }
+    {
+        self.numbers
     }
 
     /// Returns the hart that has them.
@@ -135,6 +145,20 @@ impl<'a> Registers<'a> {
         self.raw(index).matching()
     }
 
+    /// Returns how many entries from this one on are OFF, itself at least and eight at most.
+    #[inline(always)]
+    pub fn count_off(&self, first: usize) -> usize
+        requires inside { first < length self.now.entries }
+        requires off { (entry_at self.now.entries first).configuration.matching ≡ AddressMatching.Off }
+        ensures some { 0 < result }
+        ensures most { result ≤ 8 }
+        ensures off { (i : ℕ) → first ≤ i → i < first + result
+            → (entry_at self.now.entries i).configuration.matching ≡ AddressMatching.Off }
+    {
+        let _count = self.count();
+        count_off(eight_from(&self.numbers.configurations, first)).max(1)
+    }
+
     /// Returns the word address that the entry's register keeps. The bits below the grain read as zeros or ones,
     /// depending on the entry's mode.
     #[inline(always)]
@@ -147,55 +171,22 @@ impl<'a> Registers<'a> {
         self.numbers.addresses[index] % words
     }
 
-    /// Whether both keep the entry as the same numbers. With the same hart and `mseccfg`, the entry is then the same.
-    #[inline(always)]
-    pub(crate) fn has_same_numbers(&self, other: &Registers<'_>, index: usize) -> bool
-        requires here { index < length self.now.entries }
-        requires there { index < length other.now.entries }
-        ensures { IsTrue result → self.now.profile ≡ other.now.profile → self.now.mseccfg ≡ other.now.mseccfg
-            → entry_at self.now.entries index ≡ entry_at other.now.entries index }
-    {
-        let _counts = (self.count(), other.count());
-        self.numbers.addresses[index] == other.numbers.addresses[index]
-            && self.numbers.configurations[index] == other.numbers.configurations[index]
-    }
-
-    /// Whether both keep the same number for the entry's address register. On one hart it is then the same address.
-    #[inline(always)]
-    pub(crate) fn has_same_address(&self, other: &Registers<'_>, index: usize) -> bool
-        requires here { index < length self.now.entries }
-        requires there { index < length other.now.entries }
-        ensures { IsTrue result → self.now.profile ≡ other.now.profile
-            → (entry_at self.now.entries index).address ≡ (entry_at other.now.entries index).address }
-    {
-        let _counts = (self.count(), other.count());
-        self.numbers.addresses[index] == other.numbers.addresses[index]
-    }
-
-    /// Returns the byte at a place of the configuration register, the lowest at 0, and zero if it is no entry's byte.
-    #[inline(always)]
-    fn byte_at(&self, register: u8, place: usize) -> u8
-        requires { place < ENTRIES_PER_CFG }
-        ensures { result ≡ byte_in self.now register (4 * register + place) }
-    {
-        let index = 4 * usize::from(register) + place;
-        if place < self.hart().bytes_in(register) && index < self.count() {
-            self.configuration(index).byte()
-        } else {
-            0
-        }
-    }
-
     /// Returns the bytes of the entries that the configuration register holds, if there are any.
     #[inline(always)]
-    fn configuration_word(&self, register: u8) -> u64
+    pub(crate) fn configuration_word(&self, register: u8) -> u64
         ensures { result ≡ configuration_word self.now register }
     {
-        let mut bytes = [0; ENTRIES_PER_CFG];
-        for place in 0..bytes.len() {
-            bytes[place] = self.byte_at(register, place);
+        let first = 4 * usize::from(register);
+        if first >= self.count() {
+            return 0;
         }
-        u64::from_le_bytes(bytes)
+        let bytes = eight_from(&self.numbers.configurations, first);
+        let unlocked = MseccfgFields {
+            rlb: true,
+            ..self.fields()
+        };
+        let word = stored_over(self.hart, 0, bytes, &unlocked);
+        lowest(word, self.hart.bytes_there(register))
     }
 
     /// Returns what the entry's address register reads if it keeps this address.

@@ -1,7 +1,7 @@
 //! What a rule allows.
 
 ghost use Rattle.std.specs.Prelude.{◌≡◌, ◌<◌, length};
-ghost use Rattle.pmp_core.specs.Rights.{bits_of, perms_of, is_barred, lockdown_rights, rights, rule_rights};
+ghost use Rattle.pmp_core.specs.Rights.{bits_of, perms_of, lockdown_rights, rights, rule_rights};
 ghost use Rattle.pmp_core.specs.Rights.{default_rights, default_rights_by};
 
 use crate::access::Mode;
@@ -67,14 +67,6 @@ fn default_rights_by(has_entries: bool, mode: Mode, mseccfg: &MseccfgFields) -> 
         Mode::S | Mode::U if has_entries => Perms::NONE,
         _ => Perms::RWX,
     }
-}
-
-/// Whether a rule is one that MML lets no write add: it is locked, and lets M-mode execute.
-pub fn is_barred(configuration: &Configuration) -> bool
-    ensures { result ≡ is_barred configuration.now.locked configuration.now.read configuration.now.write
-        configuration.now.execute }
-{
-    configuration.is_locked() && lockdown_rights(configuration, Mode::M).contains(Perms::X)
 }
 
 impl<'a> Registers<'a> {

@@ -1,28 +1,21 @@
 //! Why a register doesn't read what was written to it.
 
-ghost use Rattle.std.specs.Prelude.{◌≡◌, ℕ, ◌+◌, ◌*◌, ◌<◌, ◌≤◌, ◌==◌, nat_lt, false, not, ◌&&◌, Some, None, length};
-ghost use Rattle.std.specs.Prelude.{if◌then◌else◌};
-ghost use Rattle.std.specs.List.{list_any};
-ghost use Rattle.pmp_core.specs.declared.register_write.TheConstants.{ENTRIES_PER_CFG};
-ghost use Rattle.pmp_core.specs.Configuration.{configuration_of, is_reserved};
-ghost use Rattle.pmp_core.specs.Grain.{is_na4};
-ghost use Rattle.pmp_core.specs.Hart.{holds_byte_of};
+ghost use Rattle.std.specs.Prelude.{◌≡◌, ℕ, ◌<◌, ◌==◌, nat_lt, not, ◌&&◌, Some, None, false, length, if◌then◌else◌};
+ghost use Rattle.pmp_core.specs.declared.csr.Csr.{Csr};
+ghost use Rattle.pmp_core.specs.Bytes.{AreFlags, byte};
+ghost use Rattle.pmp_core.specs.Configuration.{bit_of, configuration_of};
 ghost use Rattle.pmp_core.specs.RegisterValue.{register_value};
-ghost use Rattle.pmp_core.specs.RegisterWrite.{holds, written};
-ghost use Rattle.pmp_core.specs.Rights.{is_barred};
-ghost use Rattle.pmp_core.specs.WriteReasons.{byte_for, is_changed, reasons_of};
-ghost use Rattle.pmp_core.specs.WriteReasons.{is_entry_reason, has_reason, is_some_entry_reason, is_reason};
-ghost use Rattle.pmp_core.specs.WriteReasons.{is_absent, has_absent_byte, has_bit_6_or_5, has_other_bits};
+ghost use Rattle.pmp_core.specs.RegisterWrite.{is_address_frozen, written};
+ghost use Rattle.pmp_core.specs.SavedRegisters.{restored_file};
+ghost use Rattle.pmp_core.specs.WriteReasons.{AreMarked, bits_of, has_reason, is_reason, reasons_of};
+ghost use Rattle.pmp_core.specs.WriteReasons.{is_absent, has_other_bits};
 ghost use Rattle.pmp_core.specs.WriteReasons.{clears_sticky, sets_bypass};
 
-use crate::configuration::{AddressMatching, Configuration};
+use crate::configuration_word::{barred, chosen, locked, lowest, plain, reserved, selects_na4};
 use crate::csr::Csr;
-use crate::hart::Hart;
 use crate::mseccfg::MseccfgFields;
-use crate::register_write::ENTRIES_PER_CFG;
 use crate::registers::Registers;
-use crate::rights::is_barred;
-use std::ops::Range;
+use crate::saved_registers::SavedRegisters;
 
 /// Why a register doesn't read what was written to it. A write may have several reasons.
 #[derive(Clone, Copy, Debug, PartialEq, Eq)]
@@ -68,6 +61,18 @@ impl WriteReason {
 pub struct Reasons(u16);
 
 impl Reasons {
+    /// Returns the set of those that hold, of tests in the order of `WriteReason::ALL`.
+    #[inline(always)]
+    fn of(tests: [bool; 9]) -> Reasons
+        ensures bits { result.0 ≡ bits_of tests }
+        ensures most { result.0 < 512 }
+    {
+        let low = u16::from(tests[0]) + 2 * u16::from(tests[1]) + 4 * u16::from(tests[2]);
+        let middle = u16::from(tests[3]) + 2 * u16::from(tests[4]) + 4 * u16::from(tests[5]);
+        let high = u16::from(tests[6]) + 2 * u16::from(tests[7]) + 4 * u16::from(tests[8]);
+        Reasons(low + 8 * middle + 64 * high)
+    }
+
     /// Returns a bit for each reason, the lowest for the first of `WriteReason::ALL`.
     pub fn bits(self) -> u16
         ensures { result ≡ self.0 }
@@ -76,158 +81,113 @@ impl Reasons {
     }
 }
 
-/// Returns the byte for an entry in a value of a configuration register of the hart, if the register has one.
-fn byte_for(hart: Hart, register: u8, value: u64, index: usize) -> Option<u8>
-    ensures { result ≡ (if holds_byte_of hart register index then Some (byte_for register value index) else None) }
+/// Returns the flags if the hart or `mseccfg` lets what they say be a reason, else none.
+#[inline(always)]
+fn flags_if(allowed: bool, flags: u64) -> u64
+    ensures { result ≡ (if allowed then flags else 0) }
 {
-    let place = index.checked_sub(4 * usize::from(register))?;
-    if place < hart.bytes_in(register) {
-        Some(value.to_le_bytes()[place])
-    } else {
-        None
-    }
+    if allowed { flags } else { 0 }
 }
 
-/// Returns the entries of the hart whose configuration or address the register holds.
-fn entries_of(hart: Hart, csr: Csr) -> Range<usize>
-    ensures within { result.end ≤ hart.entries }
-    ensures others { (i : ℕ) → i < hart.entries → (result.start ≤ i → result.end ≤ i) → holds hart csr i ≡ false }
+/// Whether this byte of a word isn't zero.
+fn is_set(word: u64, place: usize) -> bool
+    requires { place < 8 }
+    ensures { result ≡ not (byte word place == 0) }
 {
-    let count = usize::from(hart.entries());
-    match csr {
-        Csr::Cfg(register) => {
-            let first = 4 * usize::from(register);
-            first..count.min(first + hart.bytes_in(register))
-        }
-        Csr::Addr(register) => {
-            let index = usize::from(register);
-            index..count.min(index + 1)
-        }
-        Csr::Mseccfg | Csr::Mseccfgh => 0..0,
-    }
+    word.to_le_bytes()[place] != 0
 }
 
-/// Returns how many bytes of the configuration register belong to entries of the hart. They are its lowest ones.
-fn bytes_there(hart: Hart, register: u8) -> usize
-    ensures there { (j : ℕ) → j < ENTRIES_PER_CFG → (holds_byte_of hart register (4 * register + j)
-        && nat_lt (4 * register + j) hart.entries) ≡ nat_lt j result }
-    ensures most { result ≤ ENTRIES_PER_CFG }
-{
-    let first = 4 * usize::from(register);
-    usize::from(hart.entries())
-        .saturating_sub(first)
-        .min(hart.bytes_in(register))
+/// The reasons that entries have: of each a word with a byte for each of eight entries from the first one on, which isn't
+/// zero if the entry has it.
+#[derive(Clone, Copy)]
+struct EntryReasons {
+    first: usize,
+    frozen: u64,
+    tor: u64,
+    reserved: u64,
+    lockdown: u64,
+    grain: u64,
 }
 
-/// Whether one of the bytes isn't zero.
-fn has_some(bytes: &[u8]) -> bool
-    ensures { result ≡ list_any (λ byte. not (byte == 0)) bytes.now }
-{
-    bytes.iter().any(|byte| *byte != 0)
-}
-
-/// Whether the value has a byte other than zero that isn't for an entry of the hart.
-fn has_absent_byte(hart: Hart, register: u8, value: u64) -> bool
-    ensures { result ≡ has_absent_byte hart hart.entries register value }
-{
-    let bytes = value.to_le_bytes();
-    has_some(&bytes[bytes_there(hart, register)..])
-}
-
-/// Whether one of the bytes has bit 6 or 5 set, which no configuration has.
-fn has_bit_6_or_5(bytes: &[u8]) -> bool
-    ensures { result ≡ list_any has_bit_6_or_5 bytes.now }
-{
-    bytes.iter().any(|byte| byte / 32 % 4 != 0)
+impl EntryReasons {
+    const NONE: EntryReasons = EntryReasons {
+        first: 0,
+        frozen: 0,
+        tor: 0,
+        reserved: 0,
+        lockdown: 0,
+        grain: 0,
+    };
 }
 
 impl<'a> Registers<'a> {
-    /// Whether the register has the entry's byte or address, and reads differently from the value.
-    fn is_changed(&self, csr: Csr, value: u64, index: usize) -> bool
-        requires { index < length self.now.entries }
-        ensures { result ≡ is_changed self.now csr value index }
+    /// Returns a flag for each of eight configuration bytes whose entry is frozen.
+    #[inline(always)]
+    fn frozen_bytes(&self, word: u64) -> u64
+        ensures flags { AreFlags result }
+        ensures bytes { (j : ℕ) → j < 8 → byte result j
+            ≡ bit_of ((configuration_of (byte word j)).locked && not self.now.mseccfg.rlb) }
     {
-        match csr {
-            Csr::Cfg(register) => match byte_for(self.hart(), register, value, index) {
-                Some(byte) => byte != self.configuration(index).byte(),
-                None => false,
-            },
-            Csr::Addr(register) => {
-                let reads = self.reads(index, self.address(index));
-                usize::from(register) == index && value != reads
-            }
-            Csr::Mseccfg | Csr::Mseccfgh => false,
-        }
+        if self.fields().rlb { 0 } else { locked(word) }
     }
 
-    /// Whether a byte that no lock keeps out would add W without R.
-    fn adds_reserved(&self, byte: u8) -> bool
-        ensures { result ≡ (not self.now.mseccfg.mml && is_reserved (configuration_of byte)) }
-    {
-        !self.fields().mml && Configuration::from_byte(byte).is_reserved()
-    }
-
-    /// Whether a byte that no lock keeps out would add a barred rule.
-    fn adds_barred(&self, byte: u8) -> bool
-        ensures { let new = configuration_of byte in result ≡ (self.now.mseccfg.mml && not self.now.mseccfg.rlb
-            && is_barred new.locked new.read new.write new.execute) }
-    {
-        let fields = self.fields();
-        fields.mml && !fields.rlb && is_barred(&Configuration::from_byte(byte))
-    }
-
-    /// Whether a byte selects NA4, which a coarse grain lacks.
-    fn adds_na4(&self, byte: u8) -> bool
-        ensures { result ≡ (nat_lt 0 self.now.profile.grain && is_na4 (configuration_of byte).matching) }
-    {
-        self.hart().grain() > 0 && Configuration::from_byte(byte).matching() == AddressMatching::Na4
-    }
-
-    /// Whether this reason holds for the entry.
-    fn is_entry_reason(&self, reason: WriteReason, csr: Csr, value: u64, index: usize) -> bool
-        requires { index < length self.now.entries }
-        ensures { result ≡ is_entry_reason reason self.now csr value index }
-    {
-        let frozen = self.is_frozen(index);
-        match (reason, csr) {
-            (WriteReason::Frozen, _) => frozen && self.is_changed(csr, value, index),
-            (WriteReason::Tor, Csr::Addr(_)) => {
-                !frozen && self.is_address_frozen(index) && self.is_changed(csr, value, index)
-            }
-            (WriteReason::Reserved, Csr::Cfg(register)) => {
-                match byte_for(self.hart(), register, value, index) {
-                    Some(byte) => !frozen && self.adds_reserved(byte),
-                    None => false,
-                }
-            }
-            (WriteReason::Lockdown, Csr::Cfg(register)) => {
-                match byte_for(self.hart(), register, value, index) {
-                    Some(byte) => !frozen && self.adds_barred(byte),
-                    None => false,
-                }
-            }
-            (WriteReason::Grain, Csr::Cfg(register)) => match byte_for(
-                self.hart(),
-                register,
-                value,
-                index,
-            ) {
-                Some(byte) => !frozen && self.adds_na4(byte),
-                None => false,
-            },
-            (WriteReason::Grain, Csr::Addr(register)) => {
-                usize::from(register) == index && self.reads(index, value) != value
-            }
-            _ => false,
-        }
-    }
-
-    /// Whether this reason holds for some entry.
-    fn is_some_entry_reason(&self, reason: WriteReason, csr: Csr, value: u64) -> bool
-        ensures { result ≡ is_some_entry_reason reason self.now csr value }
+    /// Returns the reasons that entries have against a configuration register's value. Those that ask what is written
+    /// skip the bytes that a lock keeps out.
+    #[inline(always)]
+    fn configuration_reasons(&self, register: u8, value: u64) -> EntryReasons
+        ensures { AreMarked result self.now (Csr.Cfg register) value }
     {
         let _count = self.count();
-        entries_of(self.hart(), csr).any(|index| self.is_entry_reason(reason, csr, value, index))
+        let fields = self.fields();
+        let old = self.configuration_word(register);
+        let frozen = self.frozen_bytes(old);
+        let new = chosen(frozen, 0, lowest(value, self.hart().bytes_there(register)));
+        EntryReasons {
+            first: 4 * usize::from(register),
+            frozen: chosen(frozen, value, old) ^ old,
+            tor: 0,
+            reserved: flags_if(!fields.mml, reserved(new)),
+            lockdown: flags_if(fields.is_lockdown(), barred(new)),
+            grain: flags_if(self.hart().grain() > 0, selects_na4(new)),
+        }
+    }
+
+    /// Returns the reasons that entries have against an address register's value: those of its own entry.
+    #[inline(always)]
+    fn address_reasons(&self, register: u8, value: u64) -> EntryReasons
+        requires { register < length self.now.entries }
+        ensures { AreMarked result self.now (Csr.Addr register) value }
+    {
+        let first = usize::from(register);
+        let frozen = self.is_frozen(first);
+        let is_changed = value != self.reads(first, self.address(first));
+        EntryReasons {
+            first,
+            frozen: u64::from(frozen & is_changed),
+            tor: u64::from(!frozen & self.is_address_frozen(first) & is_changed),
+            reserved: 0,
+            lockdown: 0,
+            grain: u64::from(self.reads(first, value) != value),
+        }
+    }
+
+    /// Returns the reasons that entries have against the value.
+    #[inline(always)]
+    fn entry_reasons(&self, csr: Csr, value: u64) -> EntryReasons
+        ensures { AreMarked result self.now csr value }
+    {
+        match csr {
+            Csr::Cfg(register) => self.configuration_reasons(register, value),
+            Csr::Addr(register) => {
+                if usize::from(register) < self.count() {
+                    self.address_reasons(register, value)
+                } else {
+                    EntryReasons::NONE
+                }
+            }
+            Csr::Mseccfg => EntryReasons::NONE,
+            Csr::Mseccfgh => EntryReasons::NONE,
+        }
     }
 
     /// Whether some reason holds for the entry.
@@ -235,9 +195,17 @@ impl<'a> Registers<'a> {
         requires { index < length self.now.entries }
         ensures { result ≡ has_reason self.now csr value index }
     {
-        WriteReason::ALL
-            .iter()
-            .any(|reason| self.is_entry_reason(*reason, csr, value, index))
+        let found = self.entry_reasons(csr, value);
+        match index.checked_sub(found.first) {
+            Some(place) if place < 8 => {
+                is_set(found.frozen, place)
+                    | is_set(found.tor, place)
+                    | is_set(found.reserved, place)
+                    | is_set(found.lockdown, place)
+                    | is_set(found.grain, place)
+            }
+            _ => false,
+        }
     }
 
     fn has_mseccfgh(&self) -> bool
@@ -253,7 +221,7 @@ impl<'a> Registers<'a> {
     {
         let _count = self.count();
         match csr {
-            Csr::Cfg(register) => has_absent_byte(self.hart(), register, value),
+            Csr::Cfg(register) => lowest(value, self.hart().bytes_there(register)) != value,
             Csr::Addr(register) => value != 0 && usize::from(register) >= self.count(),
             Csr::Mseccfg => value != 0 && !self.hart().has_smepmp(),
             Csr::Mseccfgh => value != 0 && !self.has_mseccfgh(),
@@ -265,7 +233,7 @@ impl<'a> Registers<'a> {
         ensures { result ≡ has_other_bits self.now.profile csr value }
     {
         match csr {
-            Csr::Cfg(_) => has_bit_6_or_5(&value.to_le_bytes()),
+            Csr::Cfg(_) => plain(value) != value,
             Csr::Addr(_) => value / self.hart().word_addresses() != 0,
             Csr::Mseccfg => self.hart().has_smepmp() && value / 8 != 0,
             Csr::Mseccfgh => value != 0 && self.has_mseccfgh(),
@@ -290,6 +258,7 @@ impl<'a> Registers<'a> {
     }
 
     /// Whether this is a reason why the register wouldn't read the value, if it were written now.
+    #[tactic(auto, using(crate::proofs::FlaggedReasons::some_of))]
     pub fn is_reason(&self, reason: WriteReason, csr: Csr, value: u64) -> bool
         ensures { result ≡ is_reason reason self.now csr value }
     {
@@ -299,26 +268,67 @@ impl<'a> Registers<'a> {
             (WriteReason::Sticky, Csr::Mseccfg) => self.clears_sticky(value),
             (WriteReason::Bypass, Csr::Mseccfg) => self.sets_bypass(value),
             (WriteReason::Sticky | WriteReason::Bypass, _) => false,
-            _ => self.is_some_entry_reason(reason, csr, value),
+            (WriteReason::Frozen, _) => self.entry_reasons(csr, value).frozen != 0,
+            (WriteReason::Tor, _) => self.entry_reasons(csr, value).tor != 0,
+            (WriteReason::Reserved, _) => self.entry_reasons(csr, value).reserved != 0,
+            (WriteReason::Lockdown, _) => self.entry_reasons(csr, value).lockdown != 0,
+            (WriteReason::Grain, _) => self.entry_reasons(csr, value).grain != 0,
         }
     }
 
     /// Returns why the register wouldn't read the value, if it were written now.
-    #[cold]
-    #[inline(never)]
+    #[tactic(auto, using(crate::proofs::FlaggedReasons::some_of))]
     pub fn reasons(&self, csr: Csr, value: u64) -> Reasons
         ensures reasons { result ≡ reasons_of self.now csr value }
         ensures most { result.0 < 512 }
     {
-        let mut bits = 0;
-        for place in 0..WriteReason::ALL.len() {
-            let reason = WriteReason::ALL[8 - place];
-            bits = 2 * bits + u16::from(self.is_reason(reason, csr, value));
-        }
-        Reasons(bits)
+        let entries = self.entry_reasons(csr, value);
+        Reasons::of([
+            self.is_absent(csr, value),
+            self.has_other_bits(csr, value),
+            entries.frozen != 0,
+            entries.tor != 0,
+            entries.reserved != 0,
+            entries.lockdown != 0,
+            self.is_reason(WriteReason::Sticky, csr, value),
+            self.is_reason(WriteReason::Bypass, csr, value),
+            entries.grain != 0,
+        ])
     }
 
-    /// Does the same, given what the register reads after the write, which is mostly the value as written.
+    /// Does the same out of line, by the numbers alone.
+    #[inline(always)]
+    pub(crate) fn reasons_apart(&self, csr: Csr, value: u64) -> Reasons
+        ensures { result ≡ reasons_of self.now csr value }
+    {
+        self.numbers().reasons(csr, value)
+    }
+
+    /// Does the same for an address register that no lock keeps as it is.
+    #[inline(always)]
+    pub(crate) fn open_address_reasons(&self, register: u8, value: u64) -> Reasons
+        requires inside { register < length self.now.entries }
+        requires free { is_address_frozen self.now register ≡ false }
+        ensures { result ≡ reasons_of self.now (Csr.Addr register) value }
+    {
+        let index = usize::from(register);
+        let has_bits = value / self.hart().word_addresses() != 0;
+        let is_too_fine = self.reads(index, value) != value;
+        let none = false;
+        Reasons::of([
+            none,
+            has_bits,
+            none,
+            none,
+            none,
+            none,
+            none,
+            none,
+            is_too_fine,
+        ])
+    }
+
+    /// Does the same for any register, given what it reads after the write, which is mostly the value as written.
     #[inline(always)]
     pub(crate) fn reasons_where(&self, csr: Csr, value: u64, reads: u64) -> Reasons
         requires { reads ≡ register_value (written self.now csr value) csr }
@@ -328,7 +338,21 @@ impl<'a> Registers<'a> {
         if reads == value {
             Reasons(0)
         } else {
-            self.reasons(csr, value)
+            self.reasons_apart(csr, value)
+        }
+    }
+}
+
+impl SavedRegisters {
+    /// Returns why the register wouldn't read the value, if it were written now.
+    #[cold]
+    #[inline(never)]
+    fn reasons(&self, csr: Csr, value: u64) -> Reasons
+        ensures { result ≡ reasons_of (restored_file self.now) csr value }
+    {
+        match Registers::on_standard(self) {
+            Some(registers) => registers.reasons(csr, value),
+            None => Registers::of(self).reasons(csr, value),
         }
     }
 }

@@ -6,8 +6,9 @@ use Rattle.std.proofs.lemmas.Bool.{cases_lt}
 use Rattle.pmp_core.specs.declared.access.TheConstants.{ADDRESS_LIMIT}
 use Rattle.pmp_core.specs.Decision.{IsLeast, IsOwner}
 use Rattle.pmp_core.specs.declared.range.ByteRange.{ByteRange}
-use Rattle.pmp_core.specs.Ranges.{IsInRange, range_of}
-use Rattle.pmp_core.specs.RegisterFile.{HasAddresses, RegisterFile}
+use Rattle.pmp_core.specs.declared.configuration.AddressMatching.TheVariants.{Off}
+use Rattle.pmp_core.specs.Ranges.{IsInRange, range_of, range_on}
+use Rattle.pmp_core.specs.RegisterFile.{HasAddresses, RegisterFile, entry_at}
 use Rattle.pmp_core.proofs.Matches.{matches_range, range_past}
 use Rattle.pmp_map.specs.declared.run.Run.{Run}
 use Rattle.pmp_map.specs.Owners.{IsOwnerIn}
@@ -211,3 +212,32 @@ module _ (file : RegisterFile) (byte index : ℕ) (range : ByteRange) (is : rang
         before = λ some owns. taken file byte index (run.first - 1) (rw (← low) at (down.apart (omega (arith, some, low)))) (to_ranges (run.first - 1) owns);
         after = λ less owns. taken file byte index (run.last + 1) (rw (← last) at (up.apart (omega (arith, less, last)))) (to_ranges (run.last + 1) owns);
       }
+
+-- entries that are OFF have no byte
+off_empty : (file : RegisterFile) (i other : ℕ) → (entry_at file.entries i).configuration.matching ≡ Off
+    → ¬ (IsInRange (range_of file i) other)
+unfolding range_on
+off_empty file i other off has = let no : IsInRange (record { start = 0; end = 0 }) other = rw off at has in absurd (omega (arith, no.1))
+
+pub off_around : (file : RegisterFile) (byte index first end : ℕ) → SweptDown file byte index first → Swept file byte index end
+    → (n : ℕ) → ((k : ℕ) → index ≤ k → k < index + n → (entry_at file.entries k).configuration.matching ≡ Off)
+    → SweptDown file byte (index + n) first × Swept file byte (index + n) end
+off_around file byte index first end down up n off = (
+  record {
+    below = down.below;
+    clear = λ i other below from to. elim (cases_lt i index) [
+      | inl before ↦ down.clear i other before from to
+      | inr after ↦ off_empty file i other (off i after below)
+    ];
+    apart = λ some. let found = down.apart some in (found.0, omega (arith, found.1), found.2);
+  },
+  record {
+    above = up.above;
+    bounded = up.bounded;
+    clear = λ i other below from to. elim (cases_lt i index) [
+      | inl before ↦ up.clear i other before from to
+      | inr after ↦ off_empty file i other (off i after below)
+    ];
+    apart = λ less. let found = up.apart less in (found.0, omega (arith, found.1), found.2);
+  },
+)

@@ -26,7 +26,7 @@ mod search;
 mod tables;
 
 pub use answer::{NO_CAUSE, answer_number, cause_number, no_access};
-pub use around::run_around;
+pub use around::{owned_run, run_around};
 pub use byte_lock::ByteLock;
 pub use compared::{Aspect, Compared};
 pub use compared_run::{ComparedRun, compared_run_from};

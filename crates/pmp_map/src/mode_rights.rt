@@ -15,7 +15,7 @@ pub fn whole_cause(owner: Option<u8>) -> Cause
 
 /// Returns what the owner of a byte gives the mode, or what the mode may do without an owner.
 #[inline(always)]
-fn owned_rights(registers: &Registers<'_>, owner: Option<u8>, mode: Mode) -> Perms
+pub fn owned_rights(registers: &Registers<'_>, owner: Option<u8>, mode: Mode) -> Perms
     requires { IfSome owner (λ entry. entry < length registers.now.entries) }
     ensures { result ≡ perms_of (owned_rights registers.now owner mode) }
 {

@@ -11,16 +11,13 @@ use Rattle.pmp_c.proofs.tilvenka_pmp_run.Goals as goal
 pub returns-in-Some-clause-run : goal.returns-in-Some-clause-run
 returns-in-Some-clause-run c = λ named mode_is small is_unit.
     let file = file_of_unit c.args.unit.now in
-    let run = c.run-run.result in
-    let around = c.run-run.ensures is_unit in
+    let run = c.run-rights.result.0 in
     let same : c.in-Some.mode ≡ named = mode_once c.in-Some.mode named (c.in-Some.ensures.some ∙ sym mode_is) in
-    let rights : c.rights.result ≡ Some (perms_of (owned_rights file run.owner named)) = rw (← same)
-    ((c.rights.ensures is_unit).owned run.owner (λ byte from to.
-    let here : byte ≡ c.args.address = omega arith in rw here (around.owned c.args.address around.here))) in
+    let rights : c.run-rights.result.1 ≡ Some (perms_of (owned_rights file run.owner named)) = rw (← same) (c.run-rights.ensures.rights is_unit) in
     let number = ap rights_number rights in
     record {
       owner = run.owner;
-      around = around;
+      around = c.run-rights.ensures.run is_unit;
       number_is = omega (
         arith,
         c.from.ensures,

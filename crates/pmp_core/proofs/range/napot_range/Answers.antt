@@ -1,29 +1,19 @@
-use Rattle.std.proofs.Common.{ℕ, refl, ap, ◌∙◌, w64, ◌≡◌, ◌^◌, ◌+◌, ◌*◌, ◌/◌, ◌%◌, arith}
-use Rattle.std.proofs.Math.Nat.{mod-eq_of_lt, one-mul}
-use Rattle.std.specs.Int.{trailing_ones}
-use Rattle.pmp_core.proofs.Napot.{shifts}
+use Rattle.std.proofs.Common.{◌≡◌, ◌∙◌, ◌*◌, ◌+◌, ◌%◌, ◌^◌, bit_and, bit_or, arith}
+use Rattle.std.proofs.Math.Nat.{mod-eq_of_lt}
+use Rattle.std.proofs.lemmas.Nat.{and_le_l}
+use Rattle.pmp_core.specs.Ranges.{napot_range}
+use Rattle.pmp_core.proofs.Napot.{either_small, end_is, start_is}
 use Rattle.pmp_core.proofs.range.napot_range.Goals as goal
 
-pub overflow_shr-start : goal.overflow_shr-start
-overflow_shr-start c = let s = shifts c.args.address c.requires in omega (arith, s.ones, c.trailing_ones-ones.ensures)
-
-pub overflow_shl-start : goal.overflow_shl-start
-overflow_shl-start c = let s = shifts c.args.address c.requires in omega (arith, s.ones, c.trailing_ones-ones.ensures)
-
-pub overflow_shl-result : goal.overflow_shl-result
-overflow_shl-result c = let s = shifts c.args.address c.requires in omega (arith, s.ones, c.trailing_ones-ones.ensures)
-
-pub overflow_add-result-2 : goal.overflow_add-result-2
-overflow_add-result-2 c =
-    let s = shifts c.args.address c.requires in
-    rw c.trailing_ones-ones.ensures (omega (arith, s.from, s.size))
+pub overflow_add-result : goal.overflow_add-result
+overflow_add-result c = let small = either_small c.args.address c.requires in omega arith
 
 pub returns : goal.returns
 returns c =
-    let k = trailing_ones w64 c.args.address in
-    let s = shifts c.args.address c.requires in
-    let from : c.args.address / 2 ^ (k + 1) * 2 ^ (k + 3) % 2 ^ 64 ≡ c.args.address / 2 ^ (k + 1) * 2 ^ (k + 3) =
-    mod-eq_of_lt (omega (arith, s.from)) in
-    let size : 1 * 2 ^ (k + 3) % 2 ^ 64 ≡ 2 ^ (k + 3) =
-    ap (λ (p : ℕ). p % 2 ^ 64) (one-mul (2 ^ (k + 3))) ∙ mod-eq_of_lt (omega (arith, s.size)) in
-    rw (c.trailing_ones-ones.ensures, from, size) refl
+    let a = c.args.address in
+    let small = either_small a c.requires in
+    let low : bit_and a (a + 1) * 4 % 2 ^ 64 ≡ bit_and a (a + 1) * 4 = mod-eq_of_lt (omega (arith, and_le_l a (a + 1), c.requires)) in
+    let high : (bit_or a (a + 1) + 1) * 4 % 2 ^ 64 ≡ (bit_or a (a + 1) + 1) * 4 = mod-eq_of_lt (omega arith) in
+    let start : bit_and a (a + 1) * 4 % 2 ^ 64 ≡ (napot_range a).start = low ∙ omega (arith, start_is a c.requires) in
+    let end : (bit_or a (a + 1) + 1) * 4 % 2 ^ 64 ≡ (napot_range a).end = high ∙ omega (arith, end_is a c.requires) in
+    (λ i. record { start = start i; end = end i })

@@ -3,7 +3,7 @@ use Rattle.pmp_core.specs.Ranges.{IsInRange}
 use Rattle.std.proofs.lemmas.Bool.{false≢true}
 use Rattle.std.proofs.lemmas.Grind.{common_steps}
 use Rattle.pmp_core.proofs.Legal.{legal_addresses}
-use Rattle.pmp_map.proofs.CutFacts.{before, found_around, none, none_around, past}
+use Rattle.pmp_map.proofs.CutFacts.{before, found_around, none, none_around, off_around, past}
 use Rattle.pmp_map.proofs.around.run_around.Goals as goal
 use Rattle.pmp_map.proofs.around.run_around.Goals.{then-range+then-range-byte, else-range+then-range-2, else-range-via-then-range+else-range-byte, else-range-via-else-range, else-range+else-range-2}
 
@@ -14,8 +14,14 @@ returns-then-contains-clause-run c =
     let low : c.max.result ≡ max loop.first c.range-range.result.start = grind (arith, common_steps) in
     found_around c.args.registers.now c.args.byte loop.index c.range-range.result c.range-range.ensures
     loop.first loop.end loop.invariant.0 loop.invariant.1
-    (legal_addresses c.args.registers.now c.count-index-end.ensures.legal) _ refl (tested.0 refl) low
+    (legal_addresses c.args.registers.now c.count.ensures.legal) _ refl (tested.0 refl) low
     (omega (arith, c.min.ensures))
+
+pub loop-index-preserved-then-eq : goal.loop-index-preserved-then-eq
+loop-index-preserved-then-eq c =
+    let loop = c.loop-index in
+    off_around c.args.registers.now c.args.byte loop.index loop.first loop.end loop.invariant.0 loop.invariant.1
+    c.count_off-index.result c.count_off-index.ensures.off
 
 pub loop-index-preserved : goal.loop-index-preserved
 loop-index-preserved c =
@@ -51,5 +57,5 @@ returns-clause-run c =
     let loop = c.loop-index in
     none_around c.args.registers.now c.args.byte loop.index _ refl
     loop.first loop.end loop.invariant.0 loop.invariant.1
-    (legal_addresses c.args.registers.now c.count-index-end.ensures.legal)
-    (omega (arith, c.loop-index-test.false, c.count-index-end.ensures.count)) _ refl refl refl
+    (legal_addresses c.args.registers.now c.count.ensures.legal)
+    (omega (arith, c.loop-index-test.false, c.count.ensures.count)) _ refl refl refl

@@ -1,6 +1,5 @@
-use Rattle.std.proofs.Common.{◌≡◌, length, sym, ap, ◌∙◌}
-use Rattle.std.proofs.lemmas.List.{length-replicate}
-use Rattle.pmp_core.specs.RegisterFile.{RegisterFile, reset_entry, reset_file}
+use Rattle.std.proofs.Common.{◌≡◌, ap, ◌∙◌}
+use Rattle.pmp_core.specs.RegisterFile.{RegisterFile, reset_file}
 use Rattle.pmp_core.proofs.Legal.{reset_legal}
 use Rattle.pmp_core.proofs.register_file.RegFile.reset_again.Goals as goal
 use Rattle.pmp_core.proofs.register_file.RegFile.reset_again.Goals.{After-reset_on}
@@ -12,8 +11,3 @@ is c = c.reset_on.ensures ∙ ap reset_file (c.hart-hart.ensures
 pub returns-clause-legal : goal.returns-clause-legal
 returns-clause-legal c = rw (is (goal.at.returns-clause-legal c).After-reset_on)
     (reset_legal c.args.self.now.profile c.registers.ensures.legal.profile)
-
-pub returns-clause-entries : goal.returns-clause-entries
-returns-clause-entries c =
-    ap (λ (f : RegisterFile). length f.entries) (is (goal.at.returns-clause-entries c).After-reset_on)
-    ∙ length-replicate c.args.self.now.profile.entries reset_entry ∙ sym c.registers.ensures.legal.count

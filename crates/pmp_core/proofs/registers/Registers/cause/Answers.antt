@@ -1,7 +1,7 @@
 use Rattle.std.proofs.Common.{◌≡◌, ◌<◌, Bool, true, false, length, slice_index_or, sym, ap, ◌∙◌, arith, refl}
 use Rattle.pmp_core.specs.Ranges.{cause_of, is_covered, is_touched, ranges_of}
 use Rattle.pmp_core.proofs.Places.{length-ranges_of, range_at, no_range}
-use Rattle.pmp_core.proofs.Passes.{pass_covered, pass_split, pass_untouched, pass_end}
+use Rattle.pmp_core.proofs.Passes.{none_touched, pass_covered, pass_end, pass_off, pass_split, pass_untouched}
 use Rattle.pmp_core.proofs.registers.Registers.cause.Goals as goal
 use Rattle.pmp_core.proofs.registers.Registers.cause.Goals.{After-range-range}
 
@@ -9,8 +9,13 @@ pub loop-index-init : goal.loop-index-init
 unfolding cause_of
 loop-index-init c = refl
 
+pub returns-then-start-end-clause-cause : goal.returns-then-start-end-clause-cause
+unfolding cause_of
+returns-then-start-end-clause-cause c =
+    sym (none_touched c.args.start c.args.end c.if-start-end.true 0 (ranges_of c.args.self.now))
+
 inside : (c : After-range-range) → c.loop-index.index < length c.args.self.now.entries
-inside c = omega (arith, c.loop-index-test.true, c.count-index-end.ensures.count)
+inside c = omega (arith, c.loop-index-test.true, c.count.ensures.count)
 
 -- the range of this entry among all
 at : (c : After-range-range) → slice_index_or (ranges_of c.args.self.now) c.loop-index.index no_range
@@ -48,6 +53,11 @@ loop-index-preserved c =
     ∙ pass_untouched c.args.start c.args.end (ranges_of c.args.self.now) c.loop-index.index (among r)
     (touched r false (sym c.is_touched.ensures ∙ c.if-is_touched.false))
 
+pub loop-index-preserved-then-eq : goal.loop-index-preserved-then-eq
+loop-index-preserved-then-eq c = c.loop-index.invariant
+    ∙ pass_off c.args.self.now c.args.start c.args.end c.count_off-index.result c.loop-index.index
+    c.count_off-index.ensures.off
+
 pub returns-clause-cause : goal.returns-clause-cause
 returns-clause-cause c =
     let file = c.args.self.now in
@@ -56,6 +66,6 @@ returns-clause-cause c =
       arith,
       length-ranges_of file.profile file.entries,
       c.loop-index-test.false,
-      c.count-index-end.ensures.count,
+      c.count.ensures.count,
     )))
     ∙ sym c.loop-index.invariant

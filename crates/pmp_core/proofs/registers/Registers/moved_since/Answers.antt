@@ -1,4 +1,3 @@
-use Rattle.std.proofs.Common.{rules}
 use Rattle.std.proofs.Common.{◌≡◌, ◌∙◌, ◌+◌, ap, sym, arith, length, refl}
 use Rattle.pmp_core.specs.declared.hart.Profile.{Profile}
 use Rattle.pmp_core.specs.Moved.{moved_among}
@@ -23,14 +22,6 @@ same c = sym c.hart.ensures ∙ same_profile _ _ (sym c.if-ne.ensures) ∙ c.har
 
 as_many : (c : After-count-index-end) → length c.args.self.now.entries ≡ length c.args.before.now.entries
 as_many c = c.count.ensures.legal.count ∙ ap (λ (p : Profile). p.entries) (same c) ∙ sym c.count-2.ensures.legal.count
-
-pub moved_at-requires-clause-before : goal.moved_at-requires-clause-before
-moved_at-requires-clause-before c = omega (
-  arith,
-  c.loop-index-test.true,
-  c.count-index-end.ensures.count,
-  as_many (goal.at.moved_at-requires-clause-before c).After-count-index-end,
-)
 
 pub returns-clause-beside : goal.returns-clause-beside
 returns-clause-beside c =

@@ -32,8 +32,8 @@ kept : (c : After-address) → c.args.value % c.word_addresses.result
 kept c = ap (λ (n : ℕ). c.args.value % n) (c.word_addresses.ensures ∙ ap word_addresses (c.hart.ensures
     ∙ ap (λ (f : RegisterFile). f.profile) c.with-registers.ensures ∙ profile_in c.args.self.now))
 
-because : (c : After-address) → c.reasons_where-reasons.result ≡ reasons_of (file c) (Addr c.args.register) c.args.value
-because c = c.reasons_where-reasons.ensures
+because : (c : After-address) → c.open_address_reasons-reasons.result ≡ reasons_of (file c) (Addr c.args.register) c.args.value
+because c = c.open_address_reasons-reasons.ensures
     ∙ ap (λ (f : RegisterFile). reasons_of f (Addr c.args.register) c.args.value) c.with-registers.ensures
 
 pub returns : goal.returns

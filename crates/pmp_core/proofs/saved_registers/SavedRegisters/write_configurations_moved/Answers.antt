@@ -11,6 +11,3 @@ returns-then-not-written-clause-moved c = none_moved c.args.self.now c.write_con
 pub with-now-requires : goal.with-now-requires
 with-now-requires c = c.requires ∙ sym (hart_kept c.args.self.now c.write_configurations-written.new.self
     (Cfg c.args.register) c.args.value c.write_configurations-written.result c.write_configurations-written.ensures)
-
-pub returns-clause-moved : goal.returns-clause-moved
-returns-clause-moved c = search rules

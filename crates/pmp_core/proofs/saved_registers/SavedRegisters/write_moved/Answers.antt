@@ -1,4 +1,3 @@
-use Rattle.std.proofs.Common.{rules}
 use Rattle.std.proofs.Common.{◌∙◌, sym}
 use Rattle.pmp_core.specs.declared.csr.Csr.TheVariants.{Addr, Cfg}
 use Rattle.pmp_core.proofs.MovedWrites.{beside_written, none_moved}
@@ -35,6 +34,3 @@ pub returns-in_default-clause-none : goal.returns-in_default-clause-none
 returns-in_default-clause-none c = λ same. c.write_moved_apart.ensures.moved
     ∙ sym (none_moved c.args.self.now c.write_moved_apart.new.self c.args.csr c.args.value
     c.write_moved_apart.result.0 c.write_moved_apart.ensures.written same)
-
-pub returns-in-Addr-Some-clause-written : goal.returns-in-Addr-Some-clause-written
-returns-in-Addr-Some-clause-written c = search rules
