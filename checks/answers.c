@@ -148,6 +148,85 @@ static void try_csrs(void) {
         expect(named[number] == (status_of(32, true, number) == TILVENKA_PMP_UNCHANGED), "one name for a CSR", number);
 }
 
+// CSRRS and CSRRC: what the register read before, and the status of the write.
+static void try_bits(void) {
+    tilvenka_pmp_unit unit = {0};
+    uint64_t old = 7;
+    write_all(&unit, "3a0=1f18");
+    expect(tilvenka_pmp_set_bits(&unit, 0x3a0, 0x80, &old) == TILVENKA_PMP_CHANGED && old == 0x1f18, "bits set", 0);
+    expect(read_csr(&unit, 0x3a0) == 0x1f98, "bits set", 1);
+    expect(tilvenka_pmp_clear_bits(&unit, 0x3a0, 0x1f, &old) == TILVENKA_PMP_FROZEN && old == 0x1f98, "bits cleared", 0);
+    expect(tilvenka_pmp_clear_bits(&unit, 0x3a0, 0x1f00, &old) == TILVENKA_PMP_CHANGED, "bits cleared", 1);
+    expect(read_csr(&unit, 0x3a0) == 0x98, "bits cleared", 2);
+    expect(tilvenka_pmp_set_bits(&unit, 0x3a1, 1, &old) == TILVENKA_PMP_ODD_CONFIGURATION && old == 0x1f98, "no bits", 0);
+}
+
+// Of a page that entry 0 lets be read, and which isn't locked for M-mode; of a half of it and what follows.
+static void try_modes(void) {
+    tilvenka_pmp_unit unit = {0};
+    uint32_t rights[4] = {0};
+    write_all(&unit, "3b0=200001ff 3a0=19");
+    tilvenka_pmp_rights_of_modes(&unit, 0x80000000, 4096, rights);
+    expect(rights[TILVENKA_PMP_USER] == 1 && rights[TILVENKA_PMP_SUPERVISOR] == 1 && rights[2] == TILVENKA_PMP_NO_RANGE
+               && rights[TILVENKA_PMP_MACHINE] == 7, "rights of all modes", 0);
+    tilvenka_pmp_rights_of_modes(&unit, 0x80000800, 4096, rights);
+    expect(rights[0] == TILVENKA_PMP_MIXED && rights[1] == TILVENKA_PMP_MIXED && rights[3] == TILVENKA_PMP_MIXED,
+           "rights of all modes", 1);
+}
+
+// The bytes of a snapshot are those of the layout, and give the registers back, or leave the unit.
+static void try_snapshots(void) {
+    static const uint8_t head[16] = {'T', 'P', 'M', 'P', 1, 0, 0, 0, 0xef, 0xcd, 0xab, 0, 0, 0, 0, 0};
+    tilvenka_pmp_unit unit = {0}, other = {0};
+    uint8_t bytes[TILVENKA_PMP_SNAPSHOT_SIZE + 1];
+    reset(&unit, 64);
+    write_all(&unit, "747=4 3b0=abcdef 3ef=3fffffffffffff 3ae=9f00000000000000");
+    tilvenka_pmp_save_bytes(&unit, bytes);
+    expect(memcmp(bytes, head, sizeof head) == 0 && bytes[8 + 8 * 63 + 6] == 0x3f && bytes[520 + 63] == 0x9f
+               && bytes[584] == 4 && bytes[592] == 64, "bytes of a snapshot", 0);
+    expect(tilvenka_pmp_restore_bytes(&other, bytes, TILVENKA_PMP_SNAPSHOT_SIZE), "a snapshot", 0);
+    expect(memcmp(&unit.registers, &other.registers, sizeof unit.registers) == 0, "a snapshot", 1);
+    expect(!tilvenka_pmp_restore_bytes(&other, bytes, TILVENKA_PMP_SNAPSHOT_SIZE - 1)
+               && !tilvenka_pmp_restore_bytes(&other, bytes, TILVENKA_PMP_SNAPSHOT_SIZE + 1), "size of a snapshot", 0);
+    for (unsigned at = 0; at < 8; at++) {
+        bytes[at] ^= 1;
+        expect(!tilvenka_pmp_restore_bytes(&other, bytes, TILVENKA_PMP_SNAPSHOT_SIZE), "head of a snapshot", at);
+        bytes[at] ^= 1;
+    }
+    bytes[592] = 65;
+    expect(!tilvenka_pmp_restore_bytes(&other, bytes, TILVENKA_PMP_SNAPSHOT_SIZE)
+               && memcmp(&unit.registers, &other.registers, sizeof unit.registers) == 0, "hart of a snapshot", 0);
+}
+
+static const struct {
+    uint32_t answer;
+    const char *text;
+} TEXTS[] = {
+    {0, "allowed: entry 0"},
+    {63, "allowed: entry 63"},
+    {NONE, "allowed: no entry matches"},
+    {1024 + 7, "instruction access fault: entry 7"},
+    {5 * 1024 + SPLIT + 10, "load access fault: entry 10 matches some of the bytes"},
+    {7 * 1024 + NONE, "store/AMO access fault: no entry matches"},
+    {5 * 1024 + NO_ACCESS, "load access fault: no access"},
+};
+
+static void try_texts(void) {
+    static const char *const reasons[9] = {"absent", "bits", "frozen", "tor", "reserved", "lockdown", "sticky", "bypass",
+                                           "grain"};
+    char text[TILVENKA_PMP_TEXT_SIZE];
+    for (unsigned i = 0; i < sizeof TEXTS / sizeof *TEXTS; i++)
+        expect(strcmp(tilvenka_pmp_answer_text(TEXTS[i].answer, text), TEXTS[i].text) == 0, "text of an answer", i);
+    for (unsigned i = 0; i < 9; i++)
+        expect(strcmp(tilvenka_pmp_reason_name(TILVENKA_PMP_ABSENT << i), reasons[i]) == 0, "name of a reason", i);
+    expect(!tilvenka_pmp_reason_name(0) && !tilvenka_pmp_reason_name(TILVENKA_PMP_ABSENT | TILVENKA_PMP_BITS)
+               && !tilvenka_pmp_fault_name(0) && !tilvenka_pmp_fault_name(6), "no name", 0);
+    for (uint32_t number = 0; number < 0x800; number++)
+        expect((tilvenka_pmp_csr_name(number) != NULL) == (status_of(32, true, number) == TILVENKA_PMP_UNCHANGED),
+               "a name for a CSR", number);
+    expect(strcmp(tilvenka_pmp_csr_name(0x3ba), "pmpaddr10") == 0, "name of a CSR", 0x3ba);
+}
+
 int main(void) {
     try_runs();
     try_writes();
@@ -155,6 +234,10 @@ int main(void) {
     try_parts();
     try_entries_on();
     try_csrs();
+    try_bits();
+    try_snapshots();
+    try_modes();
+    try_texts();
     printf("%u passed, %u failed\n", passed, failed);
     return failed != 0;
 }

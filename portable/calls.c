@@ -1,13 +1,14 @@
 /* ---- The calls of tilvenka_pmp.h, over the module above.
  *
- * The module's memory is the process's: an address there is a pointer minus MEMORY, which puts the module's one data
- * segment in its place. Each call has its own module and stack, so calls may run concurrently as the header says. */
-#if defined(__BYTE_ORDER__) && __BYTE_ORDER__ != __ORDER_LITTLE_ENDIAN__
-#error "tilvenka_pmp.c is for little-endian processors"
-#endif
-TILVENKA_PMP_ASSERT(sizeof(void *) == 8, "tilvenka_pmp.c is for 64-bit processors");
+ * The module's memory is the process's: MEMORY puts the module's one data segment in its place. Each call has its own
+ * globals and stack, so calls may run concurrently as the header says. */
+TILVENKA_PMP_ASSERT(sizeof(void *) == 8 || sizeof(void *) == 4, "pointers have another size");
 
 #define MEMORY ((uintptr_t)SEGMENT - SEGMENT_ADDRESS)
+
+static void *pointer_to(u64 address) {
+    return (void *)((uintptr_t)address + MEMORY);
+}
 
 struct call {
     w2c_pmp module;
@@ -18,9 +19,8 @@ struct call {
 
 static w2c_pmp *begin(struct call *call) {
     uintptr_t top = (uintptr_t)(call->stack + sizeof call->stack / sizeof *call->stack) & ~(uintptr_t)15;
-    memset(&call->module, 0, sizeof call->module);
-    call->module.w2c_memory.data = (uint8_t *)MEMORY;
-    call->module.w2c_0x5F_stack_pointer = top - MEMORY;
+    call->module.w2c_in_call = 0;
+    call->module.w2c_0x5F_stack_pointer = (uintptr_t)(top - MEMORY);
     return &call->module;
 }
 
