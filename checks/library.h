@@ -32,18 +32,23 @@ static inline uint32_t decide(tilvenka_pmp_unit *unit, uint32_t mode, uint32_t k
     return is_same ? answer : UINT32_MAX;
 }
 
-// Writes from reset, given as 'CSR=VALUE' in hexadecimal digits.
+// The next write of some that are given as 'CSR=VALUE' in hexadecimal digits, if there is one.
+static inline bool next_write(const char **writes, unsigned *csr, unsigned long long *value) {
+    int length;
+    if (**writes == 0)
+        return false;
+    if (sscanf(*writes, " %x=%llx%n", csr, value, &length) != 2)
+        abort();
+    *writes += length;
+    return true;
+}
+
 static inline void write_all(tilvenka_pmp_unit *unit, const char *writes) {
     unsigned csr;
     unsigned long long value;
-    int length;
-    while (sscanf(writes, " %x=%llx%n", &csr, &value, &length) == 2) {
+    while (next_write(&writes, &csr, &value))
         if (!tilvenka_pmp_is_done(tilvenka_pmp_write(unit, csr, value)))
             abort();
-        writes += length;
-    }
-    if (*writes != 0)
-        abort();
 }
 
 static inline uint64_t read_csr(const tilvenka_pmp_unit *unit, uint32_t csr) {

@@ -94,17 +94,12 @@ static uint32_t right_of(uint32_t kind) {
     return rights[kind];
 }
 
-/* Returns the page's rights, from the TLB or the unit; only rights of the whole page are kept. */
-static uint32_t page_rights(struct hart *hart, uint32_t mode, uint64_t page) {
-    struct translation *kept = &hart->tlb[mode][page / PAGE % TLB_SIZE];
-    if (kept->is_valid && kept->page == page) {
-        hart->hits++;
-        return kept->rights;
-    }
+/* Asks for the page's rights. Only rights of the whole page are kept. */
+static uint32_t fill_page(struct hart *hart, uint32_t mode, uint64_t page) {
     uint32_t rights = tilvenka_pmp_rights(unit_to_ask(hart), mode, page, PAGE);
     hart->fills++;
     if (rights < TILVENKA_PMP_MIXED)
-        *kept = (struct translation){true, page, rights};
+        hart->tlb[mode][page / PAGE % TLB_SIZE] = (struct translation){true, page, rights};
     return rights;
 }
 
@@ -113,11 +108,8 @@ static bool has(const struct run *run, const struct access *access) {
         && access->length - 1 <= run->last - access->address;
 }
 
-/* Returns the rights of the run that contains the whole access, or none. */
-static uint32_t run_rights(struct hart *hart, const struct access *access) {
-    for (unsigned place = 0; place < RUNS; place++)
-        if (has(&hart->runs[access->mode][place], access))
-            return hart->runs[access->mode][place].rights;
+/* Asks for the run at the access's address, and returns its rights if the whole access is in it, or else none. */
+static uint32_t fill_run(struct hart *hart, const struct access *access) {
     struct run *kept = &hart->runs[access->mode][hart->next_run++ % RUNS];
     uint32_t answer = tilvenka_pmp_run(unit_to_ask(hart), access->mode, access->address, &kept->first, &kept->last);
     kept->rights = tilvenka_pmp_run_rights(answer);
@@ -125,15 +117,21 @@ static uint32_t run_rights(struct hart *hart, const struct access *access) {
     return has(kept, access) ? kept->rights : 0;
 }
 
-/* Returns rights of the whole access. An access across a page's end is in one run or in none. */
+/* Returns rights of the whole access: of its page or its run if one is kept, else by asking the unit. An access across
+ * a page's end is in one run or in none. */
 static uint32_t known_rights(struct hart *hart, const struct access *access) {
     uint64_t page = access->address / PAGE * PAGE;
-    if (access->length - 1 < page + PAGE - access->address) {
-        uint32_t rights = page_rights(hart, access->mode, page);
-        if (rights < TILVENKA_PMP_MIXED)
-            return rights;
+    bool is_in_page = access->length - 1 < page + PAGE - access->address;
+    const struct translation *kept = &hart->tlb[access->mode][page / PAGE % TLB_SIZE];
+    if (is_in_page && kept->is_valid && kept->page == page) {
+        hart->hits++;
+        return kept->rights;
     }
-    return run_rights(hart, access);
+    for (unsigned place = 0; place < RUNS; place++)
+        if (has(&hart->runs[access->mode][place], access))
+            return hart->runs[access->mode][place].rights;
+    uint32_t rights = is_in_page ? fill_page(hart, access->mode, page) : TILVENKA_PMP_MIXED;
+    return rights < TILVENKA_PMP_MIXED ? rights : fill_run(hart, access);
 }
 
 /* Returns the answer to an access. If its right is known, nothing is decided, and 0 only means "allowed". */
