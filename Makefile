@@ -165,6 +165,8 @@ bench-emulator: library bench-qemu
 bench-qemu:
 	@mkdir -p bench/out
 	@bench/qemu/fetch bench/out/qemu-10 trixie || echo "QEMU 10's source can't be fetched, so it isn't timed"
+	@bench/qemu/fetch bench/out/qemu-10.2 sid 1:10.2.2+ds-1 \
+	    || echo "QEMU 10.2's source can't be fetched, so it isn't timed"
 
 bench-threads: stress
 	gcc -O2 -std=c11 -Wall -Wextra -pthread bench/threads.c bench/spike_like.c -o bench/out/threads

@@ -1,4 +1,5 @@
-/* decide ROUNDS: times the library, the Spike-like unit, and QEMU's where it is linked, on the same writes and requests.
+/* decide ROUNDS: times the library, the Spike-like unit, the one tuned by hand, and QEMU's where they are linked, on the
+   same writes and requests.
    In each round all of them take turns. A line for each row and peer has the table, the row, the peer, how many calls a
    round has, and the fewest nanoseconds of a call. */
 #define _POSIX_C_SOURCE 199309L
@@ -7,19 +8,27 @@
 #include <stdlib.h>
 #include <time.h>
 
-enum { BUILDS = 1000, SMALL_FILES = 6000, MAX_PEERS = 4 };
+enum { BUILDS = 1000, SMALL_FILES = 6000, MAX_PEERS = 6 };
 
-extern const struct peer tilvenka_map, tilvenka_registers, spike_like, qemu;
+extern const struct peer tilvenka_map, tilvenka_registers, spike_like, tuned, qemu_10, qemu_10_2;
+void compare_tuned(void);
 
-#ifdef HAS_QEMU
-#define QEMU &qemu,
+#ifdef HAS_QEMU_10
+#define QEMU_10 &qemu_10,
 #else
-#define QEMU
+#define QEMU_10
 #endif
+#ifdef HAS_QEMU_10_2
+#define QEMU_10_2 &qemu_10_2,
+#else
+#define QEMU_10_2
+#endif
+#define QEMU QEMU_10 QEMU_10_2
 
-static const struct peer *const all[] = {&tilvenka_map, &tilvenka_registers, &spike_like, QEMU NULL};
-static const struct peer *const exact[] = {&tilvenka_map, &tilvenka_registers, &spike_like, NULL};
-static const struct peer *const writers[] = {&tilvenka_registers, &spike_like, QEMU NULL};
+static const struct peer *const all[] = {&tilvenka_map, &tilvenka_registers, &spike_like, &tuned, QEMU NULL};
+static const struct peer *const exact[] = {&tilvenka_map, &tilvenka_registers, &spike_like, &tuned, NULL};
+static const struct peer *const writers[] = {&tilvenka_registers, &spike_like, &tuned, QEMU NULL};
+static const struct peer *const runners[] = {&tilvenka_map, &tilvenka_registers, &tuned, NULL};
 static const struct peer *const builders[] = {&tilvenka_map, NULL};
 
 static unsigned rounds;
@@ -54,6 +63,16 @@ static void run_switches(const struct peer *peer, uint16_t *told) {
     }
 }
 
+static void run_moved_switches(const struct peer *peer, uint16_t *told) {
+    const struct write *next = writes + write_count - SWITCHES * SWITCH_WRITES;
+    uint64_t first, last;
+    for (size_t i = 0; i < SWITCHES; i++) {
+        for (size_t j = 0; j < SWITCH_WRITES; j++)
+            peer->moves(next[i * SWITCH_WRITES + j], &first, &last);
+        peer->fill(requests + i * PAGES, PAGES, told + i * PAGES, FREE);
+    }
+}
+
 static void run_writes(const struct peer *peer, uint16_t *told) {
     (void)told;
     peer->write(writes + write_count - WRITES, WRITES);
@@ -71,6 +90,12 @@ static void run_reads(const struct peer *peer, uint16_t *told) {
     peer->read(writes + write_count - WRITES, WRITES, values);
 }
 
+static void run_runs(const struct peer *peer, uint16_t *told) {
+    uint64_t first, last;
+    for (size_t i = 0; i < request_count; i++)
+        told[i] = peer->run(requests[i].mode, requests[i].start, &first, &last);
+}
+
 static void run_builds(const struct peer *peer, uint16_t *told) {
     (void)told;
     peer->build(BUILDS);
@@ -78,7 +103,9 @@ static void run_builds(const struct peer *peer, uint16_t *told) {
 
 static const struct work decisions = {"asking", all, run_decisions, 0, COUNT};
 static const struct work fills = {"asking", all, run_fills, 0, COUNT};
+static const struct work runs = {"asking", runners, run_runs, 0, COUNT};
 static const struct work switches = {"asking", all, run_switches, SWITCHES * SWITCH_WRITES, SWITCHES};
+static const struct work moved_switches = {"asking", writers, run_moved_switches, SWITCHES * SWITCH_WRITES, SWITCHES};
 static const struct work changes = {"registers", writers, run_writes, WRITES, WRITES};
 static const struct work moves = {"registers", writers, run_moves, WRITES, WRITES};
 static const struct work reads = {"registers", writers, run_reads, WRITES, WRITES};
@@ -177,8 +204,8 @@ static double time_of(const struct work *work, const struct peer *peer) {
 
 static void measure(const char *name, const struct work *work) {
     double best[MAX_PEERS] = {0};
-    if (work->peers == all)
-        compare_answers(name, work, all);
+    if (work->peers == all || work->peers == runners)
+        compare_answers(name, work, work->peers);
     else
         compare_registers(name);
     for (unsigned round = 0; round < rounds; round++) {
@@ -214,6 +241,9 @@ static void measure_decisions(void) {
     measure_in_turn("every mode and kind, in turn");
     set_loads(ENTRIES, 0x2000);
     measure("no match", &decisions);
+    set_regions(1);
+    measure("no match, one on", &decisions);
+    set_regions(ENTRIES);
     set_loads(ENTRIES, 0);
     for (size_t i = 0; i < COUNT; i++)
         requests[i].start = (requests[i].start & ~UINT64_C(4095)) + 4092;
@@ -232,16 +262,28 @@ static void measure_fills(void) {
     set_regions(ENTRIES);
     set_loads(ENTRIES, 0);
     measure("rights of a page, a region each", &fills);
+    measure("a run, a region each", &runs);
+    set_regions(1);
+    set_loads(ENTRIES, 0x2000);
+    measure("rights of a page, no match, one on", &fills);
+    measure("a run, no match, one on", &runs);
     set_switches(PAGES);
     measure("a switch, 8 on", &switches);
+    measure("a switch, 8 on, and what it moved", &moved_switches);
     set_switches(ENTRIES);
     measure("a switch, all on", &switches);
+    measure("a switch, all on, and what it moved", &moved_switches);
 }
 
 static void measure_registers(void) {
     set_address_writes();
     measure("write of `pmpaddr`", &changes);
     measure("write of `pmpaddr`, and what it moved", &moves);
+    set_ones_and_zeros();
+    measure("write of `pmpaddr`, all ones and zeros in turn", &changes);
+    set_frozen_writes(false);
+    measure("write of `pmpaddr`, frozen", &changes);
+    set_address_writes();
     measure("read of `pmpaddr`", &reads);
     set_configuration_writes(0x1d);
     measure("write of `pmpcfg`", &changes);
@@ -249,6 +291,10 @@ static void measure_registers(void) {
     measure("read of `pmpcfg`", &reads);
     set_configuration_writes(0x1f);
     measure("write of `pmpcfg`, mostly not stored as written", &changes);
+    set_configuration_writes(0);
+    measure("write of `pmpcfg`, unchanged", &changes);
+    set_frozen_writes(true);
+    measure("write of `pmpcfg`, frozen", &changes);
     set_policy_writes();
     measure("write of `mseccfg`, unchanged", &changes);
 }
@@ -273,6 +319,7 @@ int main(int count, char **words) {
         fprintf(stderr, "usage: decide ROUNDS\n");
         return 2;
     }
+    compare_tuned();
     compare_small_files();
     measure_decisions();
     measure_fills();

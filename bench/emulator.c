@@ -17,7 +17,7 @@ enum { DOMAINS = 8, ROW_COUNT = 64, MAX_UNITS = 8 };
 /* Of the entries behind those of a domain, which are on in every guest. */
 enum { FIRMWARE_ENTRY = 8, CUT_ENTRY = ENTRIES - 4, PAIR_ENTRY = ENTRIES - 2, CODE_ENTRY = ENTRIES - 1 };
 
-extern const struct peer with_runs, settled, unbuilt, all_moved, built, spike_like, qemu;
+extern const struct peer with_runs, settled, unbuilt, all_moved, built, spike_like, qemu_10;
 
 static const struct {
     const struct peer *peer;
@@ -30,7 +30,7 @@ static const struct {
     {&built, "a map at each change"},
     {&spike_like, "Spike-like"},
 #ifdef HAS_QEMU
-    {&qemu, "QEMU 10"},
+    {&qemu_10, "QEMU 10"},
 #endif
 };
 enum { UNITS = sizeof units / sizeof units[0] };

@@ -116,6 +116,25 @@ static void set_configuration_writes(uint8_t mask) {
         add_configurations(mask);
 }
 
+/* As OpenSBI finds out which entries there are. */
+static void set_ones_and_zeros(void) {
+    set_regions(0);
+    for (size_t i = 0; i < WRITES; i++)
+        add_write(PMPADDR0 + i / 2 % ENTRIES, i % 2 ? 0 : UINT64_MAX);
+}
+
+/* To registers of which all entries are locked, by a value that none of them has. */
+static void set_frozen_writes(bool is_configuration) {
+    set_regions(ENTRIES);
+    configure(ENTRIES, UINT64_C(0x9b9b9b9b9b9b9b9b));
+    for (size_t i = 0; i < WRITES; i++) {
+        if (is_configuration)
+            add_write(PMPCFG0 + 2 * below(ENTRIES / 8), UINT64_C(0x1818181818181818) | random_bytes(5));
+        else
+            add_write(PMPADDR0 + below(ENTRIES), napot_of_page(region(ENTRIES + below(ENTRIES))));
+    }
+}
+
 /* The allow-list policy again and again. */
 static void set_policy_writes(void) {
     set_regions(ENTRIES);

@@ -1,4 +1,4 @@
-/* QEMU's unit as a peer. */
+/* QEMU's unit as a peer, which is compiled once for each version: PEER is its name. */
 #include "../peer.h"
 #include "cpu.h"
 
@@ -17,7 +17,8 @@ static void write(const struct write *writes, size_t count) {
 }
 
 static void prepare(const struct write *writes, size_t count) {
-    env = (CPURISCVState){.misa_mxl = MXL_RV64, .cfg = {.mmu = true, .pmp = true, .ext_smepmp = true}};
+    env = (CPURISCVState){.misa_mxl = MXL_RV64, .cfg = {.mmu = true, .pmp = true, .ext_smepmp = true,
+                                                        .pmp_regions = ENTRIES, .pmp_granularity = 4}};
     write(writes, count);
 }
 
@@ -58,8 +59,11 @@ static inline unsigned rights_of(struct request it) {
 ASK_BY(decide, answer_to)
 ASK_BY(fill, rights_of)
 
-const struct peer qemu = {
-    .name = "qemu",
+#define TEXT_OF(NAME) #NAME
+#define NAME_OF(PEER) TEXT_OF(PEER)
+
+const struct peer PEER = {
+    .name = NAME_OF(PEER),
     .prepare = prepare,
     .change = write,
     .moves = moves,

@@ -53,6 +53,14 @@ static inline unsigned rights_unmapped(struct request it) {
     return tilvenka_pmp_rights(&unmapped, it.mode, it.start & ~UINT64_C(4095), 4096);
 }
 
+static unsigned run_mapped(unsigned mode, uint64_t address, uint64_t *first, uint64_t *last) {
+    return tilvenka_pmp_run(&mapped, mode, address, first, last);
+}
+
+static unsigned run_unmapped(unsigned mode, uint64_t address, uint64_t *first, uint64_t *last) {
+    return tilvenka_pmp_run(&unmapped, mode, address, first, last);
+}
+
 ASK_BY(ask_mapped, decide_mapped)
 ASK_BY(ask_unmapped, decide_unmapped)
 ASK_BY(fill_mapped, rights_mapped)
@@ -79,6 +87,7 @@ const struct peer tilvenka_map = {
     .change = change_mapped,
     .decide = ask_mapped,
     .fill = fill_mapped,
+    .run = run_mapped,
     .build = build,
 };
 
@@ -92,4 +101,5 @@ const struct peer tilvenka_registers = {
     .read = read,
     .decide = ask_unmapped,
     .fill = fill_unmapped,
+    .run = run_unmapped,
 };

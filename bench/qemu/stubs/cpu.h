@@ -9,6 +9,8 @@ typedef uint64_t hwaddr;
 typedef struct CPUArchState CPURISCVState;
 
 #define MAX_RISCV_PMPS ENTRIES
+#define MIN_RISCV_PMP_GRANULARITY 4
+#define TARGET_LONG_BITS 64
 #include "pmp.h"
 
 enum { PRV_U = 0, PRV_S = 1, PRV_M = 3 };
@@ -25,6 +27,9 @@ struct configuration {
     bool ext_smepmp;
     bool ext_smmpm;
     bool ext_zicfilp;
+    /* Of 10.2. */
+    uint8_t pmp_regions;
+    uint32_t pmp_granularity;
 };
 
 struct CPUArchState {
