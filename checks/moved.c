@@ -85,13 +85,13 @@ static void try_rows(void) {
     }
 }
 
-// A map pays from the 16th question on.
+// A map pays from the 24th question on.
 
 static bool is_settled_right(const tilvenka_pmp_unit *unbuilt, const tilvenka_pmp_unit *built, uint64_t questions) {
     static tilvenka_pmp_unit unit;
     unit = *unbuilt;
-    bool is_right = tilvenka_pmp_settle(&unit, questions) == (questions >= 16);
-    is_right &= memcmp(&unit, questions >= 16 ? built : unbuilt, sizeof unit) == 0;
+    bool is_right = tilvenka_pmp_settle(&unit, questions) == (questions >= 24);
+    is_right &= memcmp(&unit, questions >= 24 ? built : unbuilt, sizeof unit) == 0;
     unit = *built;
     return is_right && tilvenka_pmp_settle(&unit, questions) && memcmp(&unit, built, sizeof unit) == 0;
 }

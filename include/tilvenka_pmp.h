@@ -250,7 +250,7 @@ void tilvenka_pmp_build(tilvenka_pmp_unit *unit);
 /* Builds the map if it isn't built and pays off: if the given number of questions (decisions, rights, runs) since the
  * last change take longer without it. Returns whether the map is then built. The caller counts: from 0 after each
  * TILVENKA_PMP_CHANGED, reset and restore, one more for each question, calling this before the question. The map pays
- * off from the 16th question on. */
+ * off from the 24th question on. */
 bool tilvenka_pmp_settle(tilvenka_pmp_unit *unit, uint64_t questions);
 
 bool tilvenka_pmp_is_built(const tilvenka_pmp_unit *unit);

@@ -138,7 +138,7 @@ pub extern "C" fn tilvenka_pmp_build(unit: &mut Unit)
 pub extern "C" fn tilvenka_pmp_settle(unit: &mut Unit, questions: u64) -> bool
     ensures { IsSettled unit.old unit.new questions result }
 {
-    if unit.map.runs == 0 && questions >= 16 {
+    if unit.map.runs == 0 && questions >= 24 {
         unit.build();
     }
     unit.map.runs > 0
