@@ -12,8 +12,8 @@
  * and a build keeps a map that is. So change the registers only through these calls: code that writes to the struct
  * itself, or takes a whole unit from elsewhere, must set `map.runs` to 0.
  *
- * It is for 64-bit hosts and was built for x86-64 Linux. A saved struct has the host's byte order. Units with equal
- * registers may differ in bytes, so compare and hash what tilvenka_pmp_save gives.
+ * It was built for x86-64 Linux; the one C file is for other little-endian hosts. A saved struct has the host's byte
+ * order. Units with equal registers may differ in bytes, so compare and hash what tilvenka_pmp_save gives.
  *
  * Link with -ltilvenka_pmp. Addresses are byte addresses of physical memory unless noted otherwise. */
 #ifndef TILVENKA_PMP_H
@@ -250,7 +250,7 @@ void tilvenka_pmp_build(tilvenka_pmp_unit *unit);
 /* Builds the map if it isn't built and pays off: if the given number of questions (decisions, rights, runs) since the
  * last change take longer without it. Returns whether the map is then built. The caller counts: from 0 after each
  * TILVENKA_PMP_CHANGED, reset and restore, one more for each question, calling this before the question. The map pays
- * off from the 16th question on. */
+ * off from the 24th question on. */
 bool tilvenka_pmp_settle(tilvenka_pmp_unit *unit, uint64_t questions);
 
 bool tilvenka_pmp_is_built(const tilvenka_pmp_unit *unit);
@@ -295,6 +295,72 @@ static inline void tilvenka_pmp_save(const tilvenka_pmp_unit *unit, tilvenka_pmp
 static inline uint32_t tilvenka_pmp_restore(tilvenka_pmp_unit *unit, const tilvenka_pmp_registers *registers) {
     const tilvenka_pmp_registers saved = *registers;
     return tilvenka_pmp_restore_from(unit, &saved);
+}
+
+/* CSRRS and CSRRC: reads the CSR into `old`, and writes it back with these bits set or cleared. Returns the status of the
+ * write, or that of the read if there is no such register. An instruction whose source is x0, or the immediate 0, only
+ * reads: call tilvenka_pmp_read for it, since a write may store bits that the grain hides in what is read. */
+static inline uint32_t tilvenka_pmp_set_bits(tilvenka_pmp_unit *unit, uint32_t csr, uint64_t bits, uint64_t *old) {
+    const uint32_t status = tilvenka_pmp_read(unit, csr, old);
+    return status == TILVENKA_PMP_UNCHANGED ? tilvenka_pmp_write(unit, csr, *old | bits) : status;
+}
+
+static inline uint32_t tilvenka_pmp_clear_bits(tilvenka_pmp_unit *unit, uint32_t csr, uint64_t bits, uint64_t *old) {
+    const uint32_t status = tilvenka_pmp_read(unit, csr, old);
+    return status == TILVENKA_PMP_UNCHANGED ? tilvenka_pmp_write(unit, csr, *old & ~bits) : status;
+}
+
+/* The rights of every access of each mode inside the range: rights[mode] is what tilvenka_pmp_rights returns for it. No
+ * mode has the number 2, so rights[2] is TILVENKA_PMP_NO_RANGE. */
+static inline void tilvenka_pmp_rights_of_modes(const tilvenka_pmp_unit *unit, uint64_t start, uint64_t length,
+                                                uint32_t rights[4]) {
+    for (uint32_t mode = 0; mode < 4; mode++)
+        rights[mode] = tilvenka_pmp_rights(unit, (tilvenka_pmp_mode)mode, start, length);
+}
+
+/* A snapshot as bytes, the same on every host: "TPMP", the version of this layout, 1, in four bytes, and then what
+ * tilvenka_pmp_registers has, in its order. Numbers have their lowest byte first. */
+enum { TILVENKA_PMP_SNAPSHOT_VERSION = 1, TILVENKA_PMP_SNAPSHOT_SIZE = 600 };
+
+static inline void tilvenka_pmp_put_number(uint8_t *bytes, uint64_t number, unsigned count) {
+    for (unsigned place = 0; place < count; place++)
+        bytes[place] = (uint8_t)(number >> 8 * place);
+}
+
+static inline uint64_t tilvenka_pmp_get_number(const uint8_t *bytes, unsigned count) {
+    uint64_t number = 0;
+    for (unsigned place = count; place > 0; place--)
+        number = number << 8 | bytes[place - 1];
+    return number;
+}
+
+static inline void tilvenka_pmp_save_bytes(const tilvenka_pmp_unit *unit, uint8_t bytes[TILVENKA_PMP_SNAPSHOT_SIZE]) {
+    tilvenka_pmp_registers saved;
+    tilvenka_pmp_save_to(unit, &saved);
+    tilvenka_pmp_put_number(bytes, 0x504d5054, 4);
+    tilvenka_pmp_put_number(bytes + 4, TILVENKA_PMP_SNAPSHOT_VERSION, 4);
+    for (unsigned entry = 0; entry < TILVENKA_PMP_MAX_ENTRIES; entry++) {
+        tilvenka_pmp_put_number(bytes + 8 + 8 * entry, saved.addresses[entry], 8);
+        bytes[520 + entry] = saved.configurations[entry];
+    }
+    tilvenka_pmp_put_number(bytes + 584, saved.mseccfg, 8);
+    tilvenka_pmp_put_number(bytes + 592, saved.entries, 8);
+}
+
+/* Restores it. Returns false, and leaves the unit unchanged, if these bytes are no such snapshot: of another size or
+ * version, or of no hart. */
+static inline bool tilvenka_pmp_restore_bytes(tilvenka_pmp_unit *unit, const uint8_t *bytes, size_t size) {
+    tilvenka_pmp_registers saved;
+    if (size != TILVENKA_PMP_SNAPSHOT_SIZE || tilvenka_pmp_get_number(bytes, 4) != 0x504d5054
+        || tilvenka_pmp_get_number(bytes + 4, 4) != TILVENKA_PMP_SNAPSHOT_VERSION)
+        return false;
+    for (unsigned entry = 0; entry < TILVENKA_PMP_MAX_ENTRIES; entry++) {
+        saved.addresses[entry] = tilvenka_pmp_get_number(bytes + 8 + 8 * entry, 8);
+        saved.configurations[entry] = bytes[520 + entry];
+    }
+    saved.mseccfg = tilvenka_pmp_get_number(bytes + 584, 8);
+    saved.entries = tilvenka_pmp_get_number(bytes + 592, 8);
+    return tilvenka_pmp_restore_from(unit, &saved) == TILVENKA_PMP_UNCHANGED;
 }
 
 /* Whether the library fits this header: same major and minor version, and same size of the struct. */
@@ -377,6 +443,87 @@ static inline bool tilvenka_pmp_is_no_access(uint32_t answer) {
 static inline uint32_t tilvenka_pmp_entry(uint32_t answer) {
     uint32_t cause = answer % TILVENKA_PMP_FAULT;
     return cause < TILVENKA_PMP_NO_MATCH ? cause % TILVENKA_PMP_SPLIT : cause;
+}
+
+/* What to show people. */
+
+/* The name of a CSR, such as "pmpcfg0", or NULL if no hart has one with this number. */
+static inline const char *tilvenka_pmp_csr_name(uint32_t csr) {
+#define TILVENKA_PMP_CASE(number, name) \
+    case number: \
+        return name;
+    switch (csr) {
+        TILVENKA_PMP_CSRS(TILVENKA_PMP_CASE)
+        TILVENKA_PMP_CSRS_RV32(TILVENKA_PMP_CASE)
+    default:
+        return NULL;
+    }
+#undef TILVENKA_PMP_CASE
+}
+
+/* The word for one reason of a write, TILVENKA_PMP_ABSENT and so on, as `pmp writes` has it, or NULL for any other
+ * number. */
+static inline const char *tilvenka_pmp_reason_name(uint32_t reason) {
+    switch (reason) {
+    case TILVENKA_PMP_ABSENT:
+        return "absent";
+    case TILVENKA_PMP_BITS:
+        return "bits";
+    case TILVENKA_PMP_FROZEN:
+        return "frozen";
+    case TILVENKA_PMP_LOW_END:
+        return "tor";
+    case TILVENKA_PMP_RESERVED:
+        return "reserved";
+    case TILVENKA_PMP_LOCKDOWN:
+        return "lockdown";
+    case TILVENKA_PMP_STICKY:
+        return "sticky";
+    case TILVENKA_PMP_BYPASS:
+        return "bypass";
+    case TILVENKA_PMP_GRAIN:
+        return "grain";
+    default:
+        return NULL;
+    }
+}
+
+/* The manual's name of an exception code that tilvenka_pmp_fault returns (3.1.15), or NULL for any other number. */
+static inline const char *tilvenka_pmp_fault_name(uint32_t fault) {
+    switch (fault) {
+    case 1:
+        return "instruction access fault";
+    case 5:
+        return "load access fault";
+    case 7:
+        return "store/AMO access fault";
+    default:
+        return NULL;
+    }
+}
+
+/* Room for the text of any answer. */
+enum { TILVENKA_PMP_TEXT_SIZE = 80 };
+
+/* Writes what a decision's answer says, such as "load access fault: entry 3 matches some of the bytes", and returns
+ * `text`. */
+static inline const char *tilvenka_pmp_answer_text(uint32_t answer, char text[TILVENKA_PMP_TEXT_SIZE]) {
+    const uint32_t entry = tilvenka_pmp_entry(answer);
+    const char *fault = tilvenka_pmp_fault_name(tilvenka_pmp_fault(answer));
+    const char digits[3] = {"0123456789"[entry / 10 % 10], "0123456789"[entry % 10], 0};
+    const char *const parts[4] = {
+        fault ? fault : "allowed",
+        tilvenka_pmp_is_no_access(answer) ? ": no access"
+            : tilvenka_pmp_is_unmatched(answer) ? ": no entry matches" : ": entry ",
+        entry >= TILVENKA_PMP_MAX_ENTRIES ? "" : entry < 10 ? digits + 1 : digits,
+        tilvenka_pmp_is_partial(answer) ? " matches some of the bytes" : "",
+    };
+    size_t length = 0;
+    for (unsigned part = 0; part < 4; part++)
+        for (const char *from = parts[part]; *from && length < TILVENKA_PMP_TEXT_SIZE - 1; from++)
+            text[length++] = *from;
+    text[length] = 0;
+    return text;
 }
 
 /* The rights of a run's answer. */
