@@ -93,6 +93,7 @@ test:
 	    'checks/audits $(PROGRAM)' \
 	    'checks/examples $(PROGRAM)' \
 	    'checks/formats $(PROGRAM)' \
+	    checks/values \
 	    checks/launcher \
 	    'release/documents --check' \
 	    'checks/documents $(PROGRAM)' \

@@ -16,7 +16,7 @@ class Source:
     ATTRIBUTES = re.compile(r"(?:^[ \t]*#\[.*\]\n)*\Z", re.M)
     CYCLE = re.compile(r"^[ \t]*#\[cycle\(.*\n", re.M)
     OWNER = re.compile(
-        r"^impl(?:<[^{]*?>)? (?:([\w:]+)(?:<([\w:]+)[^{]*>)?\s+for )?([\w:]+)|^(?:pub )?trait (\w+)|^}", re.M
+        r"^impl(?:<([^{]*?)>)? (?:([\w:]+)(?:<([\w:]+)[^{]*>)?\s+for )?([\w:]+)(?:<([^{]*)>)?|^(?:pub )?trait (\w+)|^}", re.M
     )
     # Where more than the contract of a function may count for its callers.
     BODY_COUNTS = re.compile(r"\bconst fn\b|-> impl\b|\bfn main\b")
@@ -55,9 +55,11 @@ class Source:
         for found in self.FN.finditer(text):
             module, owner, is_of_trait = module_of(file), [], False
             if found[1]:
-                trait, given, type_, own = list(self.OWNER.finditer(text, 0, found.start()))[-1].groups("")
+                free, trait, given, type_, of, own = list(self.OWNER.finditer(text, 0, found.start()))[-1].groups("")
+                of = [it for it in re.findall(r"(?<!')\b[A-Za-z_]\w*", of) if not re.search(rf"\b{it}\b", free)]
                 given = "".join(it[:1].upper() + it[1:] for it in given.split("::"))
-                owner = [own or type_.rpartition("::")[2] + trait.rpartition("::")[2] + given]
+                args = "".join(it[:1].upper() + it[1:] for it in of) if trait else ""
+                owner = [own or type_.rpartition("::")[2] + args + trait.rpartition("::")[2] + given]
                 is_of_trait = bool(own or trait)
                 module = module if is_of_trait else self.homes.get(type_, module)
             body = re.compile(rf"{{}}$|^{found[1]}{{|{{$|;$", re.M).search(text, found.end()).end()

@@ -3,11 +3,12 @@ the module's bytes, and the texts that are shown.
 
 A policy's rows are read by the page's own JavaScript, so their texts are compared too: each mode, kind, demand and
 pace, rows at edges, and rows that are refused."""
-import csv
 import itertools
 import pathlib
 import re
 import subprocess
+
+from page_rows import program_rows
 
 HEADER = "from,to,modes,kind,first,last,demand\n"
 LABELED = "name,from,to,modes,kind,first,last,demand,comment\n"
@@ -151,10 +152,12 @@ class Findings:
             status, place, text = self.run("policy", options, script, policy)
             shown = tab.call("verdictsShown", policy, by)
             place_shown = f"{name} after each {by}"
-            told = list(csv.reader(text.split("\n")[:-1]))
-            rows = [",".join(it[:6]) for it in told]
+            labels = ("name", "comment") if policy.startswith(LABELED) else ()
+            told = program_rows(self.program, "policy", text, *labels)
+            rows = [",".join(cell for column, cell in it.items() if column not in labels) for it in told]
             self.tally.compare(f"{place_shown}: verdicts", shown["rows"], rows[:500])
-            for said, (name_told, comment) in zip(shown["said"], (it[6:] for it in told if it[6:])):
+            for said, it in zip(shown["said"], told if labels else ()):
+                name_told, comment = it["name"], it["comment"]
                 self.tally.has(f"{place_shown}: {said!r}", said.startswith(name_told and f"{name_told}: ")
                                and said.endswith(comment and f"; {comment}"))
             self.tally.compare(f"{place_shown}: the module's", shown["answers"], rows)
@@ -164,7 +167,7 @@ class Findings:
             note = self.told.removeprefix("pmp: note: ").removesuffix("\n") if status == 0 else ""
             self.tally.compare(f"{place_shown}: the note", shown["note"], note)
             self.tally.compare(f"{place_shown}: what is wanted", bool(shown["wanted"]), bool(status))
-            moments = [{"by": by, "at": int(it.split(",")[2])} for it in rows[:40] if ",broken," in it]
+            moments = [{"by": by, "at": int(it["done"])} for it in told[:40] if it["verdict"] == "broken"]
             self.tally.compare(f"{place_shown}: where breaches lead", tab.call("breachesGoneTo", 40), moments)
 
     # Differences.

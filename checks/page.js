@@ -2,8 +2,12 @@
 
 const asList = ({status, line, text}) => [status, line, text];
 
-// The fields that the first row of `pmp why` has as a report row has them, ANSWER to ENTRY, in place of the text.
-const decisionOf = ({status, line, text}) => [status, line, text.split('\n')[0].split(',').slice(1, 5).join(',')];
+// What the first row of `pmp why` has of the row of `pmp check`, all but its number, in place of the text.
+function decisionOf({status, line, reason}) {
+    if (reason === undefined) return [status, line, ''];
+    const {answer, fault, cause, entry} = reason;
+    return [status, line, [answer, fault, cause, entry].join()];
+}
 
 function answersOf(text, moments, accesses) {
     const script = encodeText(text);
@@ -26,6 +30,13 @@ function whyOf(text, moments, accesses) {
     const script = encodeText(text);
     return moments.map((after) => accesses.map(([mode, kind, start, length]) =>
         asList(page.unit.why(script, after, mode, kind, BigInt(start), BigInt(length)))));
+}
+
+// The columns of each kind of rows, and of the first number of none.
+function columnsSaid() {
+    const numbers = {...ROW_KINDS, none: Object.keys(ROW_KINDS).length};
+    const said = Object.entries(numbers).map(([kind, number]) => [kind, page.unit.call('columns', [], [number])]);
+    return Object.fromEntries(said.map(([kind, answer]) => [kind, asList(answer)]));
 }
 
 const importOf = (log, format) => asList(page.unit.importLog(encodeText(log), format));
@@ -90,6 +101,16 @@ function momentShown(by, at) {
 
 const rowsOf = (id) => [...byId(id).tBodies[0].rows].filter(isSeen)
     .map((row) => [...row.cells].map((cell) => cell.textContent));
+
+// The same, each row with its cells by the heads of the columns.
+function rowsByHead(id) {
+    const heads = columnsOf(byId(id));
+    return rowsOf(id).map((cells) => {
+        if (cells.length !== heads.length) throw new Error(`${id}: ${cells.length} cells below ${heads.length} heads`);
+        return Object.fromEntries(heads.map((head, place) => [head, cells[place]]));
+    });
+}
+
 const linesShown = (id, parting) => rowsOf(id).map((cells) => `${cells.join(parting)}\n`).join('');
 
 function shownAt(by, at) {
@@ -111,9 +132,9 @@ function shownAt(by, at) {
 function decisionsShown(by, words) {
     slide(by, 0);
     choose(words);
-    return rowsOf('decisions').flatMap(([range, ...fields]) => {
-        const [from, to] = range.split(' to ').map(Number);
-        return new Array((to ?? from) - from + 1).fill(fields.join(','));
+    return rowsByHead('decisions').flatMap(({After, ...decision}) => {
+        const [from, to] = After.split(' to ').map(Number);
+        return new Array((to ?? from) - from + 1).fill(Object.values(decision).join());
     });
 }
 
@@ -183,12 +204,13 @@ async function verdictsShown(policy, by) {
     tellInput(byId('policy'));
     await page.demands.finished;
     const seen = isSeen(byId('policy-fault'));
-    const asRow = (cells) => cells.slice(0, 6).join(',');
+    const rows = rowsByHead('verdicts');
+    const answers = page.demands.fault ? [] : page.demands.verdicts;
     return {
-        rows: rowsOf('verdicts').map(asRow),
-        named: rowsOf('verdicts').map((cells) => [...cells.slice(0, 6), ...cells.slice(7)]),
-        said: rowsOf('verdicts').map((cells) => cells[6]),
-        answers: page.demands.fault ? [] : page.demands.lines.map(asRow),
+        rows: rows.map(({Demand, Names, ...verdict}) => Object.values(verdict).join()),
+        named: rows.map(({Demand, ...verdict}) => Object.values(verdict)),
+        said: rows.map((row) => row.Demand),
+        answers: answers.map(({demand, ...verdict}) => Object.values(verdict).join()),
         fault: seen ? byId('policy-fault-line').textContent : '',
         note: noteOf(byId('verdicts-count').textContent),
         wanted: seen ? byId('policy-fault-wanted').textContent : '',
@@ -315,12 +337,12 @@ function giveNames(text) {
     };
 }
 
-// How many cells the rows of each table with ranges have, and what is said of the access.
+// Whether the rows of each table with ranges have names, and what is said of the access.
 async function namesShown() {
     await page.demands.finished;
     const ids = ['runs', 'entries', 'verdicts', 'differences', 'findings'];
-    const counts = ids.map((id) => rowsOf(id).map((cells) => cells.length));
-    return [counts.map((it) => [...new Set(it)]), byId('access-now').textContent];
+    const haveNames = ids.map((id) => [...new Set(rowsByHead(id).map((row) => 'Names' in row))]);
+    return [haveNames, byId('access-now').textContent];
 }
 
 // What the picture has of names and of all else, and whether the names end within their bands.

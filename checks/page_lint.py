@@ -7,6 +7,7 @@ import re
 import subprocess
 
 from page_reasons import scripts_of
+from page_rows import program_rows
 
 FILES = ("lint", "writes", "heads", "rv32", "shorthands", "names")
 FORMATS = (pathlib.Path(__file__).parent.parent / "docs/FORMATS.md").read_text(encoding="utf-8")
@@ -50,7 +51,7 @@ class Lint:
         self.tally.has("the scripts with findings", len(made) > 350)
         for name, script in made.items():
             wanted = self.answer(script)
-            self.found |= {it.split(",")[1] for it in wanted[2].splitlines()}
+            self.found |= {it["name"] for it in self.rows(wanted[2])}
             self.tally.compare(f"{name}: findings", tab.call("lintOf", script), wanted)
         self.tally.compare("the names of findings", sorted(self.found), sorted(TEXTS))
         for name, script in {**boots, "many": MANY, **dict(list(made.items())[-20:])}.items():
@@ -63,6 +64,9 @@ class Lint:
         return subprocess.run([self.program, "lint", "stdin", *words], input=script.encode(), capture_output=True,
                               check=False)
 
+    def rows(self, text):
+        return program_rows(self.program, "lint", text)
+
     def answer(self, script):
         """[status, line, text] of `pmp lint`."""
         done = self.run(script)
@@ -72,16 +76,16 @@ class Lint:
     def compare_shown(self, tab, name, script):
         """The rows, where each one's line leads, and what to do about each kind."""
         tab.call("type", script)
-        rows = self.answer(script)[2].splitlines()
+        rows = self.rows(self.answer(script)[2])
         count = f"{len(rows):,} finding{'' if len(rows) == 1 else 's'}" if rows else "No findings."
         if rows:
             count += f"; the first {MOST}:" if len(rows) > MOST else ":"
         shown = tab.ask("lintShown()")
-        self.tally.compare(f"{name}: findings shown", shown["rows"], rows[:MOST])
+        self.tally.compare(f"{name}: findings shown", shown["rows"], [",".join(it.values()) for it in rows[:MOST]])
         self.tally.compare(f"{name}: their count", shown["count"], count)
-        lines = [int(it.split(",")[2]) for it in rows[:MOST]]
+        lines = [int(it["line"]) for it in rows[:MOST]]
         self.tally.compare(f"{name}: their lines", shown["lines"], [script.split("\n")[it - 1] for it in lines if it])
-        names = dict.fromkeys(it.split(",")[1] for it in rows)
+        names = dict.fromkeys(it["name"] for it in rows)
         self.tally.compare(f"{name}: what to do", shown["texts"], [it for name in names for it in (name, TEXTS[name])])
 
     def compare_names(self, tab, script):
@@ -99,10 +103,10 @@ class Lint:
     def compare_report(self, tab, script):
         """The report and what is printed have the rows, and what to do."""
         tab.call("type", script)
-        rows = self.answer(script)[2].splitlines()
+        rows = self.rows(self.answer(script)[2])
         report = tab.ask("reportOf(page)").splitlines()
-        wanted = [f"| {' | '.join(it.split(','))} |" for it in rows]
-        wanted += [f"{it}: {TEXTS[it]}" for it in dict.fromkeys(row.split(",")[1] for row in rows)]
+        wanted = [f"| {' | '.join(it.values())} |" for it in rows]
+        wanted += [f"{it}: {TEXTS[it]}" for it in dict.fromkeys(row["name"] for row in rows)]
         self.tally.compare("findings not in the report", [it for it in wanted if it not in report], [])
         tab.send("Emulation.setEmulatedMedia", media="print")
         printed = tab.ask("[rowsOf('findings').length, isSeen(byId('remedies'))]")

@@ -1,11 +1,12 @@
 """What checks/page tries of names of addresses: what stands behind each row, as `pmp map`, `entries`, `diff` and
 `policy` write it with --names, what an access may start at, texts that are refused, and what the picture and the report
 make of a name with signs that SVG, HTML and Markdown read."""
-import csv
 import pathlib
 import re
 import subprocess
 from xml.etree import ElementTree
+
+from page_rows import program_rows
 
 TOP = pathlib.Path(__file__).resolve().parent.parent
 HEADER = "first,last,name\n"
@@ -79,9 +80,10 @@ class Names:
             self.compare_picture(tab, f"{name} after {at}: picture", shown["picture"], rows["map"], script, after)
         self.compare_report(tab, name, rows)
         self.other.write_text(POLICY, encoding="utf-8")
-        judged = csv.reader(self.run("policy", script, "stdin", self.other)[2].splitlines())
-        shown = tab.call("verdictsShown", POLICY, "publication")
-        self.tally.compare(f"{name}: verdicts", shown["named"], [it[:6] + it[-1:] for it in judged])
+        judged = self.run("policy", script, "stdin", self.other)[2]
+        wanted = [[cell for column, cell in row.items() if column not in ("name", "comment")]
+                  for row in program_rows(self.program, "policy", judged, "name", "comment", "names")]
+        self.tally.compare(f"{name}: verdicts", tab.call("verdictsShown", POLICY, "publication")["named"], wanted)
         old = boots["first"]
         self.other.write_text(old, encoding="utf-8")
         wanted = self.run("diff", script, self.other, "stdin")[2]
@@ -90,7 +92,7 @@ class Names:
 
     def compare_picture(self, tab, name, text, rows, script, after):
         """The bands have the names, cut where they are long, and else what the program draws."""
-        ends = ["Names", *(it.split(",")[-1] for it in rows.splitlines())]
+        ends = ["Names", *(it["names"] for it in program_rows(self.program, "map", rows, "names"))]
         cut = [it if len(it) <= MOST_LETTERS else f"{it[:MOST_LETTERS - 1]}…" for it in ends]
         drawn = tab.ask("namesDrawn()")
         self.tally.compare(f"{name}: names", drawn["names"], cut)
@@ -110,16 +112,16 @@ class Names:
             self.tally.compare(f"{name}: {view} not in the report", missing, [])
 
     def compare_at_once(self, tab):
-        """How many cells the rows have, and what is said of the access, as soon as names are given or at fault."""
+        """Whether the rows have names, and what is said of the access, as soon as names are given or at fault."""
         tab.call("openBoot", "smepmp-boot")
         self.give(tab, "")
         tab.call("verdictsShown", POLICY, "publication")
         tab.call("differencesShown", "pmp 1\n", ["", ""])
         tab.call("choose", ["S", "store", "firmware", "8"])
-        without = [[[5], [10], [7], [7], [7]], "Refused 24 BadWord"]
+        without = [5 * [[False]], "Refused 24 BadWord"]
         self.tally.compare("without names", tab.ask("namesShown()"), without)
         self.give(tab, MADE)
-        given = [[[6], [11], [8], [8], [8]], "Fault 7, by the rule of entry 0."]
+        given = [5 * [[True]], "Fault 7, by the rule of entry 0."]
         self.tally.compare("as soon as names are given", tab.ask("namesShown()"), given)
         self.give(tab, FAULTY["turned"])
         self.tally.compare("as soon as names are at fault", tab.ask("namesShown()"), without)
@@ -130,7 +132,7 @@ class Names:
         for start in STARTS:
             for access in (["U", "load", start, "8"], ["M", "store", start, "4"]):
                 status, _, text = self.run("check", script, "stdin", *access)
-                wanted = [status, 0, text.strip()[2:]]
+                wanted = [status, 0, text.strip().removeprefix("1,")]
                 self.tally.compare(f"{access} with names", tab.call("accessDecision", access), wanted)
         self.give(tab, "")
         refused = tab.call("accessDecision", ["U", "load", "firmware", "8"])
@@ -212,8 +214,9 @@ class Names:
             done = subprocess.run([self.program, view, "--after", "4", "stdin"], input=script.encode(),
                                   capture_output=True, check=False)
             self.tally.compare(f"no names: {view}", shown[view], done.stdout.decode())
-        rows = tab.call("verdictsShown", POLICY, "publication")["named"]
-        self.tally.compare("no names: cells of verdicts", [len(it) for it in rows], [6, 6, 6])
+        shown = tab.call("verdictsShown", POLICY, "publication")
+        self.tally.has("no names: verdicts", shown["answers"])
+        self.tally.compare("no names: cells of verdicts", [",".join(it) for it in shown["named"]], shown["answers"])
         self.tally.compare("no names: the address", "names=" in tab.ask("page.noteAddress().then(() => location.hash)"),
                            False)
         self.tally.compare("no names: the report", "Names" in tab.ask("reportOf(page)"), False)

@@ -5,6 +5,8 @@ import pathlib
 import re
 import subprocess
 
+from page_rows import program_rows
+
 TOP = pathlib.Path(__file__).resolve().parent.parent
 HEADER = "first,last,m,su,locked,name\n"
 LIMIT = 2 ** 56
@@ -67,10 +69,10 @@ def gaps_of(rows):
 class Registers:
     """What a script leaves at a moment, by the rows of the program's views."""
 
-    def __init__(self, view, script, after):
-        runs = [it.split(",") for it in view("map", script, after).splitlines()]
-        self.runs = [(int(first, 16), int(last, 16), *rest) for first, last, *rest in runs]
-        self.frozen = [it.split(",")[6] == "frozen" for it in view("entries", script, after).splitlines()]
+    def __init__(self, program, view, script, after):
+        self.runs = program_rows(program, "map", view("map", script, after))
+        entries = program_rows(program, "entries", view("entries", script, after))
+        self.frozen = [it["lock"] == "frozen" for it in entries]
         bits = int(re.search(r"^mseccfg (\S+)$", view("dump", script, after), re.MULTILINE)[1], 16)
         self.rest = ("---" if bits & 2 else "rw-" if bits & 1 else "rwx", "---")
 
@@ -79,10 +81,12 @@ class Registers:
 
     def verdict(self, number, first, last, asked, is_locked):
         """The line on these bytes, or None where they are met."""
-        for begin, end, owner, *given in self.runs:
+        for run in self.runs:
+            begin, end, owner = int(run["first"], 16), int(run["last"], 16), run["owner"]
+            given = run["mrights"], run["surights"]
             held = self.is_held(owner)
-            if begin <= last and first <= end and (tuple(given) != asked or is_locked and not held):
-                fields = f"{max(first, begin):#x},{owner},{given[0]},{given[1]},{'yes' if held else 'no'}"
+            if begin <= last and first <= end and (given != asked or is_locked and not held):
+                fields = f"{max(first, begin):#x},{owner},{','.join(given)},{'yes' if held else 'no'}"
                 return f"{number},unmet,{fields}\n"
         return None
 
@@ -98,11 +102,11 @@ def shown_rows(plan, verdicts):
     """The rows that the page shows for these lines."""
     rows = [*([f"{number}", *line.removesuffix("\r").split(",")] for number, line in
               enumerate(plan.removesuffix("\n").split("\n")[1:], 1)), ["-", "", "", "", "", "", "bytes of no row"]]
-    for row, line in zip(rows, verdicts.splitlines(), strict=True):
+    for (number, *asked), line in zip(rows, verdicts.splitlines(), strict=True):
         _, verdict, byte, owner, machine, others, held = line.split(",")
         by = "no entry" if owner == "-" else f"entry {owner}"
         has = f"{by}: {machine}, {others}, {'held' if held == 'yes' else 'not held'}"
-        yield [row[0], verdict, *row[1:], byte, "" if verdict == "met" else has]
+        yield [number, verdict, *asked, byte, "" if verdict == "met" else has]
 
 
 class Plans:
@@ -130,6 +134,9 @@ class Plans:
 
     def view(self, view, script, after):
         return self.run(view, "--after", str(after), "stdin", text=script).stdout.decode()
+
+    def registers(self, script, after):
+        return Registers(self.program, self.view, script, after)
 
     def answer(self, plan, *options):
         """[status, row, text] of `pmp plan`."""
@@ -161,7 +168,7 @@ class Plans:
         own = self.run("plan", "--of", "stdin", text=script).stdout.decode()
         last = len(re.findall(r"^[ \t]*publish\b", script, re.MULTILINE))
         for after in range(last + 1):
-            registers = Registers(self.view, script, after)
+            registers = self.registers(script, after)
             for label, plan in {**MADE, "the example": EXAMPLE, "its own": own}.items():
                 wanted = registers.verdicts(plan)
                 got = tab.call("meetsOf", script, after, plan)
@@ -180,7 +187,7 @@ class Plans:
             last = len(re.findall(r"^publish\b", script, re.MULTILINE))
             for by, text, count in (("publication", script, last), ("write", singly, events)):
                 for at in range(count + 1):
-                    wanted = Registers(self.view, text, at).verdicts(plan)
+                    wanted = self.registers(text, at).verdicts(plan)
                     shown = tab.call("planShownAt", by, at)
                     place = f"{name} at {by} {at}: the plan"
                     self.tally.compare(place, shown["rows"], list(shown_rows(plan, wanted)))
@@ -237,7 +244,7 @@ class Plans:
         most = tab.ask("data.limits.ROWS")
         tab.call("type", "pmp 1\n")
         plan = HEADER + "".join(f"{it},{it},rwx,---,no,n\n" for it in range(most))
-        wanted = [0, 0, Registers(self.view, "pmp 1\n", 0).verdicts(plan)]
+        wanted = [0, 0, self.registers("pmp 1\n", 0).verdicts(plan)]
         self.tally.compare("so many rows of a plan", tab.call("meetsOf", "pmp 1\n", 0, plan), wanted)
         plan += f"{most},{most},rwx,---,no,n\n"
         got = [tab.call("meetsOf", "pmp 1\n", 0, plan), tab.call("plansOf", "pmp 1\n", plan)[0]]

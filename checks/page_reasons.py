@@ -6,13 +6,18 @@ import pathlib
 import re
 import subprocess
 
+from page_rows import program_rows
+
 ROWS = pathlib.Path(__file__).parent / "rows"
 FILES = ("lint", "check", "entries", "heads", "marks", "rv32", "shorthands")
 MODES = ("M", "S", "U")
 KINDS = ("fetch", "load", "store")
-# What the fields ANSWER, CAUSE, MATCHING, TABLE, LOCK and HELD may have, and has to be met.
-WORDS = {1: {"allow", "fault"}, 3: {"rule", "split", "none"}, 5: {"", "tor", "na4", "napot"},
-         9: {"", "plain", "smepmp"}, 10: {"", "-", "bypassed", "frozen"}, 11: {"", "-", "held"}}
+# What these columns may have, and has to be met.
+WORDS = {"answer": {"allow", "fault"}, "cause": {"rule", "split", "none"}, "matching": {"", "tor", "na4", "napot"},
+         "table": {"", "plain", "smepmp"}, "lock": {"", "-", "bypassed", "frozen"}, "held": {"", "-", "held"}}
+# The columns that lead to a line, and what they are called.
+PARTS = {"configured": "its configuration byte", "addressed": "its address register",
+         "lowend": "the low end of its range"}
 MADE = """pmp 3
 hart entries 8
 set pmpaddr2 0x20000000
@@ -58,17 +63,17 @@ def scripts_of(name):
 
 def sentences(row, by, names=""):
     """What the page has to say of a row, whose lines are the script's own."""
-    since, *_, entry, matching, first, last, bits, table, lock, held, configured, addressed, low_end = row
+    since, entry, lock, held = (row[it] for it in ("since", "entry", "lock", "held"))
     said = ["It has been so from the start." if since == "0" else f"It has been so since {by} {since}."]
     if entry == "":
         return said
-    named = f": {names}" if names else ""
-    parts = [f"{part} by {'no event' if line == '0' else f'line {line}'}" for part, line in (
-        ("its configuration byte", configured), ("its address register", addressed),
-        ("the low end of its range", low_end)) if line]
+    first, last = (hex(int(row[it], 16)) for it in ("first", "last"))
+    bits = ", ".join(f"{name} = {bit}" for name, bit in zip("LRWX", row["bits"]))
+    lines = {part: row[it] for it, part in PARTS.items() if row[it]}
+    parts = [f"{part} by {'no event' if line == '0' else f'line {line}'}" for part, line in lines.items()]
     return said + [
-        f"Entry {entry} is {matching.upper()} and matches {hex(int(first, 16))} to {hex(int(last, 16))}{named}.",
-        f"Its bits are {', '.join(f'{name} = {bit}' for name, bit in zip('LRWX', bits))}, {TABLES[table]}.",
+        f"Entry {entry} is {row['matching'].upper()} and matches {first} to {last}{f': {names}' if names else ''}.",
+        f"Its bits are {bits}, {TABLES[row['table']]}.",
         FIRST_HELD if (held, entry) == ("held", "0") else LOCKS[lock, held],
         f"Changed last: {', '.join(parts)}."]
 
@@ -77,7 +82,7 @@ class Reasons:
     def __init__(self, tally, program, work, write_singly):
         self.tally, self.program, self.write_singly = tally, program, write_singly
         self.names = pathlib.Path(work, "reasons.csv")
-        self.words = {place: set() for place in WORDS}
+        self.words = {column: set() for column in WORDS}
 
     def compare_all(self, tab, boots):
         made = {**boots, "a made script": MADE}
@@ -86,8 +91,8 @@ class Reasons:
         self.kinds = itertools.cycle(itertools.product(MODES, KINDS))
         for name, script in {**made, **rows}.items():
             self.compare_answers(tab, name, script)
-        for place, words in WORDS.items():
-            self.tally.compare(f"the words of field {place}", self.words[place], words)
+        for column, words in WORDS.items():
+            self.tally.compare(f"the words of {column}", self.words[column], words)
         for name in SHOWN:
             self.compare_shown(tab, name, made[name])
         self.compare_names(tab, boots["smepmp-boot"])
@@ -102,14 +107,19 @@ class Reasons:
         refused = re.match(rb"pmp: (?:script line (\d+): )?refused (\d+) ", done.stderr)
         return [int(refused[2]), int(refused[1] or 0), ""] if refused else [0, 0, done.stdout.decode()]
 
+    def rows(self, text):
+        """The first row of `pmp why`, and those of its answers at all moments."""
+        first, _, answers = text.partition("\n")
+        [row] = program_rows(self.program, "why", f"{first}\n")
+        return row, program_rows(self.program, "why", answers, table=1)
+
     # What the module answers.
 
     def compare_answers(self, tab, name, script):
         """At some moments, and past them all, of accesses at the edges of the runs."""
         last = len(re.findall(r"^[ \t]*publish\b", script, re.MULTILINE))
-        runs = self.run("map", script, "stdin").stdout.decode().splitlines()
-        ends = [it.split(",")[:2] for it in runs[:5]]
-        starts = [0, *(place for first, end in ends for place in (int(first, 16), int(end, 16) - 3))]
+        runs = program_rows(self.program, "map", self.run("map", script, "stdin").stdout.decode())
+        starts = [0, *(place for it in runs[:5] for place in (int(it["first"], 16), int(it["last"], 16) - 3))]
         accesses = [(*next(self.kinds), it, 8) for it in starts] + [("U", "load", 0, 0), ("S", "store", 2 ** 56 - 4, 8)]
         moments = sorted({0, last // 2, last, last + 1})
         got = tab.call("whyOf", script, moments, [[*it[:2], *map(str, it[2:])] for it in accesses])
@@ -117,8 +127,10 @@ class Reasons:
             for access, answer in zip(accesses, answers, strict=True):
                 wanted = self.answer(script, after, access)
                 self.tally.compare(f"{name} after {after}: why {access}", answer, wanted)
-                for place in WORDS if wanted[0] == 0 else ():
-                    self.words[place].add(wanted[2].split("\n")[0].split(",")[place])
+                if wanted[0] == 0:
+                    row, _ = self.rows(wanted[2])
+                    for column, words in self.words.items():
+                        words.add(row[column])
 
     # What the page shows.
 
@@ -131,14 +143,15 @@ class Reasons:
         led = {}
         for by, text, count in (("publication", script, last), ("write", singly, events)):
             for access, at in itertools.product(PLACES, range(count + 1)):
-                row, *runs = [it.split(",") for it in self.answer(text, at, access)[2].splitlines()]
-                row = row if by == "publication" else row[:-3] + [own[it] for it in row[-3:]]
+                row, runs = self.rows(self.answer(text, at, access)[2])
+                if by == "write":
+                    row |= {it: own[row[it]] for it in PARTS}
                 asked = (by, at, [*access[:2], hex(access[2]), str(access[3])])
                 shown = tab.call("whyShown", *asked)
                 place = f"{name} at {by} {at}: {access}"
                 self.tally.compare(f"{place}: why", shown["said"], sentences(row, by))
                 self.tally.compare(f"{place}: answers", *self.runs_of(shown, runs, count, at))
-                lines = [int(it) for it in row[-3:] if it not in ("", "0")]
+                lines = [int(row[it]) for it in PARTS if row[it] not in ("", "0")]
                 self.tally.compare(f"{place}: lines", shown["lines"], [script.split("\n")[it - 1] for it in lines])
                 led.setdefault(len(lines), (asked, sentences(row, by)))
         most = max(led)
@@ -147,19 +160,19 @@ class Reasons:
 
     def own_lines(self, script, singly, events):
         """The script's line for each line of the script of its single writes that an entry's row may have."""
-        writes = self.run("writes", script, "stdin").stdout.decode().splitlines()
-        lines = [it.split(",")[2] for it in writes if it[0] != ","]
+        writes = program_rows(self.program, "writes", self.run("writes", script, "stdin").stdout.decode())
+        lines = [it["line"] for it in writes if it["n"]]
         first = singly.count("\n") - 2 * events + 1
         return {"": "", "0": "0", **{str(first + 2 * place): line for place, line in enumerate(lines)}}
 
     def runs_of(self, shown, runs, last, at):
         """The rows of the table, with the one that has the moment, and those of the program."""
-        firsts = [int(it[0]) for it in runs]
+        firsts = [int(it["n"]) for it in runs]
         ends = [it - 1 for it in firsts[1:]] + [last]
-        wanted = [[f"{first}" if first == end else f"{first} to {end}", *it[1:]]
+        wanted = [{**it, "n": f"{first}" if first == end else f"{first} to {end}"}
                   for first, end, it in zip(firsts, ends, runs)]
         now = [first <= at <= end for first, end in zip(firsts, ends)]
-        return [shown["rows"], shown["now"]], [wanted, now.index(True)]
+        return [shown["rows"], shown["now"]], [[list(it.values()) for it in wanted], now.index(True)]
 
     def compare_report(self, tab, name, asked, said, lines):
         tab.call("whyShown", *asked)
@@ -178,13 +191,13 @@ class Reasons:
         tab.call("type", script)
         tab.call("giveNames", NAMES)
         self.names.write_text(NAMES, encoding="utf-8")
-        rows = self.run("entries", script, "--names", self.names, "stdin").stdout.decode().splitlines()
-        names = {it.split(",")[0]: it.split(",")[-1] for it in rows}
+        text = self.run("entries", script, "--names", self.names, "stdin").stdout.decode()
+        names = {it["entry"]: it["names"] for it in program_rows(self.program, "entries", text, "names")}
         for access in PLACES:
-            row = self.answer(script, 6, access)[2].split("\n")[0].split(",")
+            row, _ = self.rows(self.answer(script, 6, access)[2])
             shown = tab.call("whyShown", "publication", 6, [*access[:2], hex(access[2]), str(access[3])])
             self.tally.compare(f"{access} with names: why", shown["said"],
-                               sentences(row, "publication", names.get(row[4], "")))
+                               sentences(row, "publication", names.get(row["entry"], "")))
         tab.call("giveNames", "")
 
     def compare_refused(self, tab):

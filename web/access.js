@@ -20,7 +20,7 @@ function readAccess([mode, kind, start, length], names) {
 }
 
 // The decision of a row of `pmp why` in words.
-function sayDecision([, answer, fault, cause, entry]) {
+function sayDecision({answer, fault, cause, entry}) {
     const verdict = answer === 'allow' ? 'Allowed' : `Fault ${fault}`;
     if (cause === 'none') return `${verdict}: no entry matches any of its bytes.`;
     if (cause === 'split') return `${verdict}: a partial match, entry ${entry} doesn’t match all of its bytes.`;
@@ -54,12 +54,12 @@ class Access {
         this.boot = boot;
         this.by = by;
         this.access = readAccess(this.state, this.names);
-        this.drawn = null; // or the rows of its answers at all moments, as they are drawn
+        this.drawn = null; // or the rows of its answers at all moments, as they are drawn, in one text
     }
 
     answerAt(after) {
         const {access, boot, by} = this;
-        if (access === null) return {status: BAD_WORD, line: 0, text: ''};
+        if (access === null) return NO_ACCESS;
         return this.unit.why(boot.scriptBy(by), after, access.mode, access.kind, access.start, access.length);
     }
 
@@ -67,38 +67,37 @@ class Access {
     show(at) {
         const answer = this.answerAt(at);
         const right = answer.status === 0;
-        const end = answer.text.indexOf('\n') + 1; // of the row before the answers at all moments
-        const [reason] = linesOf(answer.text.slice(0, end), ',');
-        const note = right && isBare(this.state[2]) ? ` Start: ${AS_DECIMAL}` : '';
-        byId('access-now').textContent = (right ? sayDecision(reason) : sayRefusal(answer)) + note;
+        const note = right && isBare(byId('start').value) ? ` Start: ${AS_DECIMAL}` : '';
+        byId('access-now').textContent = (right ? sayDecision(answer.reason) : sayRefusal(answer)) + note;
         byId('access-now').className = right ? '' : 'wrong';
         for (const word of this.words) word.ariaInvalid = String(!right && word.tagName === 'INPUT');
-        this.showWhy(reason);
-        this.draw(answer.text.slice(end));
+        this.showWhy(answer.reason);
+        this.draw(answer.rows);
         this.showNow(at);
     }
 
     showWhy(reason) {
-        const sentences = reason ? sayWhy(this.names.addTo([this.withLines(reason)], 6, 7)[0], this.by) : [];
+        const sentences = reason ? sayWhy(this.names.addTo([this.withLines(reason)])[0], this.by) : [];
         fillSentences(byId('why'), sentences, this.goTo);
     }
 
     // The row with the lines of the page's script, where single writes are asked of one made of it.
-    withLines(fields) {
+    withLines(reason) {
         const lineOf = (line) => (line === '' ? '' : `${this.boot.lineBy(this.by, Number(line))}`);
-        return [...fields.slice(0, 12), ...fields.slice(12).map(lineOf)];
+        const {configured, addressed, lowend} = reason;
+        return {...reason, configured: lineOf(configured), addressed: lineOf(addressed), lowend: lineOf(lowend)};
     }
 
     // The answers at all moments, which no move of the slider changes.
     draw(rows) {
-        if (this.drawn === rows) return;
-        this.drawn = rows;
-        const runs = linesOf(rows, ',');
-        this.groups = groupsOf(runs, this.boot.last(this.by)).slice(0, MOST_ROWS);
-        const lines = this.groups.map((it) => [sayRange(it), ...it.fields]);
-        fillTable(this.table, lines, (row, fields) => { row.className = fields[1]; });
+        const drawn = JSON.stringify(rows);
+        if (this.drawn === drawn) return;
+        this.drawn = drawn;
+        this.groups = groupsOf(rows, this.boot.last(this.by)).slice(0, MOST_ROWS);
+        const shown = this.groups.map((group) => ({...group.row, n: sayRange(group)}));
+        fillTable(this.table, shown, (tr, row) => { tr.className = row.answer; });
         this.table.caption.textContent = `The answer after each ${this.by}`
-            + (runs.length > MOST_ROWS ? `; the first ${MOST_ROWS} changes` : '');
+            + (rows.length > MOST_ROWS ? `; the first ${MOST_ROWS} changes` : '');
     }
 
     // Which of the rows has the moment.
@@ -109,10 +108,10 @@ class Access {
     }
 }
 
-// Report rows, each with the first moment of a run of equal answers, as {from, to, fields}.
-function groupsOf(runs, last) {
-    const ends = [...runs.slice(1).map(([first]) => Number(first) - 1), last];
-    return runs.map(([first, ...fields], place) => ({from: Number(first), to: ends[place], fields}));
+// Rows of answers, each with the first moment of a run of equal ones, as {from, to, row}.
+function groupsOf(rows, last) {
+    const ends = [...rows.slice(1).map(({n}) => Number(n) - 1), last];
+    return rows.map((row, place) => ({from: Number(row.n), to: ends[place], row}));
 }
 
 function sayRange({from, to}) {

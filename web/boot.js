@@ -8,7 +8,7 @@ class Boot {
         this.fault = null;
         this.events = []; // in order, each with the line that says it
         this.places = new Map(); // of a line's event in that list
-        this.expectations = new Map(); // of a line that expects a value, its row's fields
+        this.expectations = new Map(); // of a line that expects a value, its row
         this.ends = [0];
         const publications = unit.publications(this.script);
         if (publications.status !== 0) {
@@ -20,10 +20,9 @@ class Boot {
             this.fault = writes;
             return;
         }
-        const rows = linesOf(writes.text, ',');
-        this.events = rows.filter(isEvent).map(readEvent);
-        const expectations = rows.filter((fields) => !isEvent(fields));
-        this.expectations = new Map(expectations.map((fields) => [Number(fields[2]), fields]));
+        this.events = writes.rows.filter(isEvent).map(readEvent);
+        const expectations = writes.rows.filter((row) => !isEvent(row));
+        this.expectations = new Map(expectations.map((row) => [Number(row.line), row]));
         this.places = new Map(this.events.map((event, place) => [event.line, place]));
         this.ends = endsOf(this.events, Number(publications.text));
     }
@@ -73,8 +72,8 @@ class Boot {
 
     // What mseccfg keeps after each number of publications.
     mseccfg() {
-        const registers = linesOf(this.unit.registers(this.script, 0).text, ' ');
-        let kept = BigInt(registers.find(([name]) => name === 'mseccfg')[1]);
+        const {rows} = this.unit.registers(this.script, 0);
+        let kept = BigInt(rows.find(({name}) => name === 'mseccfg').value);
         return this.ends.map((end, done) => {
             for (const {register, after} of this.events.slice(done === 0 ? 0 : this.ends[done - 1], end)) {
                 if (register === 'mseccfg') kept = BigInt(after);
@@ -104,14 +103,14 @@ function headOf(script) {
 }
 
 // Whether a row is an event's. An expectation's row has no number.
-function isEvent(fields) {
-    return fields[0] !== '';
+function isEvent(row) {
+    return row.n !== '';
 }
 
-function readEvent(fields) {
-    const [, publication, line, register, written, , after, effect] = fields;
+function readEvent(row) {
+    const {publication, line, register, written, after, effect} = row;
     const statement = register === 'reset' ? 'reset' : `write ${register} ${shortNumber(written)}`;
-    return {fields, publication: Number(publication), line: Number(line), register, after, effect, statement};
+    return {row, publication: Number(publication), line: Number(line), register, after, effect, statement};
 }
 
 // 0x0000000000000019 as 0x19, so that scripts of single writes stay short.

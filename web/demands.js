@@ -5,7 +5,7 @@ const SLICE = 12; // milliseconds after which the page may answer before further
 const PACES = {publication: 0, write: 1};
 
 // A row's demand in words, behind its name and before its comment.
-function sayDemand({words: [from, to, modes, kind, first, last, demand], name, comment}) {
+function sayDemand({words: {from, to, modes, kind, first, last, demand}, name, comment}) {
     const moments = `from ${from} on${to === '' ? '' : `, up to ${to}`}`;
     const front = name === '' ? '' : `${name}: `;
     return `${front}${demand} ${modes} ${kind} ${first} to ${last}, ${moments}${comment === '' ? '' : `; ${comment}`}`;
@@ -68,7 +68,7 @@ class Demands {
     ask(boot) {
         this.turn += 1;
         this.boot = boot;
-        this.lines = [];
+        this.verdicts = [];
         this.broken = 0;
         const asked = boot !== null && this.area.value !== '';
         const {rows, fault} = asked ? readPolicy(this.area.value, boot.moments, data.limits.MAX_TRACE)
@@ -86,7 +86,7 @@ class Demands {
         let until = 0;
         for (const row of rows) {
             if (performance.now() >= until) {
-                byId('verdicts-count').textContent = `${this.lines.length} of ${counted(rows.length, 'row')} so far`;
+                byId('verdicts-count').textContent = `${this.verdicts.length} of ${counted(rows.length, 'row')} so far`;
                 await new Promise((go) => setTimeout(go));
                 if (turn !== this.turn) return;
                 until = performance.now() + SLICE;
@@ -96,8 +96,9 @@ class Demands {
                 this.showFault({...answer, row: Number(row.number), place: row.place, wanted: sayAdvice(answer)});
                 break;
             }
-            this.lines.push([...linesOf(answer.text, ',')[0], sayDemand(row)]);
-            if (!row.isWaived && this.lines.at(-1)[1] !== 'holds') this.broken += 1;
+            const [verdict] = answer.rows;
+            this.verdicts.push({...verdict, demand: sayDemand(row)});
+            if (!row.isWaived && verdict.verdict !== 'holds') this.broken += 1;
         }
         this.draw(by);
         if (this.fault === null) this.showNote(rows);
@@ -106,7 +107,7 @@ class Demands {
 
     // The module's, or where the row's moments don't come, that it is unmet.
     answerOf(row, by) {
-        if (row.isUnmet) return {status: 0, line: 0, text: `${row.number},unmet,,,,\n`};
+        if (row.isUnmet) return {status: 0, rows: [this.unit.unmet(row.number)]};
         return this.unit.verdict(this.boot.script, {...row, pace: PACES[by]});
     }
 
@@ -117,22 +118,22 @@ class Demands {
             byId('verdicts-count').textContent = '';
             return;
         }
-        const unmet = this.lines.some((fields) => fields[1] === 'unmet') ? ' or unmet' : '';
-        byId('verdicts-count').textContent = `${this.broken} of ${counted(this.lines.length, 'row')} broken${unmet}`
-            + (this.lines.length > MOST_DEMANDS ? `; the first ${MOST_DEMANDS} rows:` : '.');
+        const unmet = this.verdicts.some(({verdict}) => verdict === 'unmet') ? ' or unmet' : '';
+        byId('verdicts-count').textContent = `${this.broken} of ${counted(this.verdicts.length, 'row')} broken${unmet}`
+            + (this.verdicts.length > MOST_DEMANDS ? `; the first ${MOST_DEMANDS} rows:` : '.');
         table.caption.textContent = 'Each row of the policy with its first breach, in time and then in address: '
             + `after so many ${by === 'write' ? 'events' : 'publications'}. Entry - is none.`;
-        fillTable(table, this.names.addTo(this.lines.slice(0, MOST_DEMANDS), 3, 4), (row, fields) => {
-            row.className = fields[1];
-            if (fields[2] === '') return;
-            const at = Number(fields[2]);
-            makeButton(row.cells[2], `Row ${fields[0]}: go to ${by} ${at}`, () => this.moved({by, at}));
+        fillTable(table, this.names.addTo(this.verdicts.slice(0, MOST_DEMANDS)), (tr, row, cells) => {
+            tr.className = row.verdict;
+            if (row.done === '') return;
+            const at = Number(row.done);
+            makeButton(cells.done, `Row ${row.n}: go to ${by} ${at}`, () => this.moved({by, at}));
         });
     }
 
     // The first row with an address that may not be what its writer meant.
     showNote(rows) {
-        const bare = rows.find(({words}) => isBare(words[4]) || isBare(words[5]));
+        const bare = rows.find(({words: {first, last}}) => isBare(first) || isBare(last));
         if (bare) byId('verdicts-count').textContent += ` Row ${bare.number}: ${AS_DECIMAL}`;
     }
 

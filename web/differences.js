@@ -97,12 +97,11 @@ class Differences {
             byId('old-fault-advice').textContent = sayAdvice(answer);
             byId('old-go').hidden = answer.side !== 'old' || answer.line === 0;
         }
-        const lines = answer === null || fails ? [] : linesOf(answer.text, ',');
-        byId('differences-region').hidden = lines.length === 0;
-        byId('differences-count').textContent = answer === null || fails ? '' : sayDifferences(lines.length);
-        const shown = this.names.addTo(lines.slice(0, MOST_DIFFERENCES), 0, 1);
-        fillTable(byId('differences'), shown, (row, fields) => {
-            row.className = fields[6];
+        const rows = answer === null || fails ? [] : answer.rows;
+        byId('differences-region').hidden = rows.length === 0;
+        byId('differences-count').textContent = answer === null || fails ? '' : sayDifferences(rows.length);
+        fillTable(byId('differences'), this.names.addTo(rows.slice(0, MOST_DIFFERENCES)), (tr, row) => {
+            tr.className = row.change;
         });
     }
 }

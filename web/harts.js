@@ -12,10 +12,11 @@ class Harts {
     put(scripts) {
         this.scripts = scripts.toSorted((one, other) => compareHarts(one.name, other.name));
         byId('harts-part').hidden = this.scripts.length < 2;
-        const lines = this.scripts.map(({name, text}, place) => [name, place === 0 ? '' : this.compare(text)]);
-        fillTable(byId('harts'), lines, (row) => {
-            const place = row.sectionRowIndex;
-            makeButton(row.cells[0], `Show ${this.scripts[place].name}`, () => this.open(place));
+        const rows = this.scripts.map(({name, text}, place) =>
+            ({hart: name, compared: place === 0 ? '' : this.compare(text)}));
+        fillTable(byId('harts'), rows, (tr, {hart}, cells) => {
+            const place = tr.sectionRowIndex;
+            makeButton(cells.hart, `Show ${hart}`, () => this.open(place));
         });
     }
 
@@ -32,7 +33,7 @@ class Harts {
         if (first.status !== 0) return 'not compared: the first one is refused';
         const answer = this.unit.diff(scripts[0], BigInt(first.text), scripts[1], BigInt(own.text));
         if (answer.status !== 0) return saySideFault(answer);
-        const ranges = linesOf(answer.text, ',').length;
+        const ranges = answer.rows.length;
         return ranges === 0 ? 'the same rights' : `${counted(ranges, 'range')} with other rights`;
     }
 }

@@ -11,7 +11,7 @@ class Findings {
         this.goTo = goTo;
         this.took = 0;
         this.boot = null;
-        this.lines = [];
+        this.rows = [];
         this.finished = Promise.resolve();
     }
 
@@ -41,22 +41,22 @@ class Findings {
         const answer = this.unit.lint(this.boot.script);
         this.took = performance.now() - begun;
         if (answer.status !== 0) this.show([], `${sayRefusal(answer)}. ${sayAdvice(answer)}`);
-        else this.show(linesOf(answer.text, ','));
+        else this.show(answer.rows);
     }
 
-    show(lines, said = sayFindings(lines.length)) {
-        this.lines = lines;
+    show(rows, said = sayFindings(rows.length)) {
+        this.rows = rows;
         byId('findings-count').textContent = said;
-        byId('findings-region').hidden = lines.length === 0;
-        const texts = [...new Set(lines.map(([, name]) => name))].map((name) => [name, data.findings[name]]);
+        byId('findings-region').hidden = rows.length === 0;
+        const texts = [...new Set(rows.map(({name}) => name))].map((name) => [name, data.findings[name]]);
         fillTexts(byId('remedies'), texts);
         this.draw();
     }
 
     draw() {
-        fillTable(byId('findings'), this.names.addTo(this.lines.slice(0, MOST_FINDINGS), 4, 5), (row, fields) => {
-            const line = Number(fields[2]);
-            if (line > 0) makeButton(row.cells[2], `Line ${line} of the script`, () => this.goTo(line));
+        fillTable(byId('findings'), this.names.addTo(this.rows.slice(0, MOST_FINDINGS)), (tr, row, cells) => {
+            const line = Number(row.line);
+            if (line > 0) makeButton(cells.line, `Line ${line} of the script`, () => this.goTo(line));
         });
     }
 }

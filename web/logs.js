@@ -10,7 +10,8 @@ function importLog(unit, log) {
 async function readScript(unit, file) {
     const bytes = new Uint8Array(await file.arrayBuffer());
     const text = decodeText(bytes);
-    const log = significantLines(bytes)[0]?.[0] === 'pmp' ? null : importLog(unit, bytes);
+    const [[word] = []] = significantLines(bytes);
+    const log = word === 'pmp' ? null : importLog(unit, bytes);
     const name = file.name.replace(/\.pmp$/, '');
     if (log === null) return {name, text, told: ''};
     if (log.status === 0) {

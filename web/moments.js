@@ -62,8 +62,8 @@ function momentsBetween(from, to, last) {
 
 // The names that a script without a fault gives its moments, and null where its version has none.
 function namesIn(script) {
-    const [version, ...statements] = significantLines(script);
-    if (version[1] !== '3') return null;
+    const [[, version], ...statements] = significantLines(script);
+    if (version !== '3') return null;
     const names = new Map();
     let done = 0;
     for (const [word, name] of statements) {

@@ -77,9 +77,9 @@ class Names {
         byId('names-go').hidden = fault.line === 0;
     }
 
-    // Rows with a range between two of their fields, each with its names behind it where names are given.
-    addTo(rows, first, last) {
-        return this.given === null ? rows : rows.map((fields) => [...fields, this.met(fields[first], fields[last])]);
+    // Rows with a range from `first` to `last`, each with its `names` behind it where names are given.
+    addTo(rows) {
+        return this.given === null ? rows : rows.map((row) => ({...row, names: this.met(row.first, row.last)}));
     }
 
     // The names of a range between two addresses as rows have them, with the offsets of parts. No range has no names.

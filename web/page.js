@@ -249,7 +249,7 @@ class Page {
     }
 
     runs() {
-        return this.names.addTo(linesOf(this.ask('map').text, ','), 0, 1);
+        return this.names.addTo(this.ask('map').rows);
     }
 
     // What is shown.
@@ -280,7 +280,7 @@ class Page {
         const now = events[done - 1]?.line ?? 0;
         this.editor.mark((line) => {
             const place = places.get(line);
-            const effect = events[place]?.effect ?? expectations.get(line)?.[7];
+            const effect = events[place]?.effect ?? expectations.get(line)?.effect;
             const kind = effect in SIGNS ? effect : place < done ? 'done' : '';
             return kind === '' ? undefined : {kind, sign: SIGNS[kind]};
         }, now);
@@ -314,27 +314,27 @@ class Page {
 
     showRuns() {
         if (!byId('runs-part').open) return;
-        fillTable(byId('runs'), this.runs(), (row, fields) => {
-            row.className = `su${fields[4]}`;
+        fillTable(byId('runs'), this.runs(), (tr, row) => {
+            tr.className = `su${row.surights}`;
         });
     }
 
     showEntries() {
-        const lines = this.names.addTo(linesOf(this.ask('entries').text, ','), 2, 3);
-        fillTable(byId('entries'), lines, (row, fields) => {
-            row.className = classOfEntry(fields);
+        const rows = this.names.addTo(this.ask('entries').rows);
+        fillTable(byId('entries'), rows, (tr, row) => {
+            tr.className = classOfEntry(row);
         });
-        const frozen = lines.filter((fields) => fields[6] === 'frozen').length;
-        const bypassed = lines.filter((fields) => fields[6] === 'bypassed').length;
-        const hold = lines.filter((fields) => fields[9] !== '').length;
+        const frozen = rows.filter(({lock}) => lock === 'frozen').length;
+        const bypassed = rows.filter(({lock}) => lock === 'bypassed').length;
+        const hold = rows.filter(({holds}) => holds !== '').length;
         const verb = hold === 1 ? 'holds' : 'hold';
         byId('entries-count').textContent = bypassed > 0
-            ? `${bypassed} of ${lines.length} entries locked, all bypassed: RLB is on.`
-            : `${frozen} of ${lines.length} entries frozen; ${hold} ${verb}.`;
+            ? `${bypassed} of ${rows.length} entries locked, all bypassed: RLB is on.`
+            : `${frozen} of ${rows.length} entries frozen; ${hold} ${verb}.`;
     }
 
     showRegisters() {
-        if (byId('registers-part').open) fillTable(byId('registers'), linesOf(this.ask('registers').text, ' '));
+        if (byId('registers-part').open) fillTable(byId('registers'), this.ask('registers').rows);
     }
 
     showWrites() {
@@ -343,19 +343,19 @@ class Page {
             ? `All of ${counted(this.boot.events.length, 'event')} are stored as written.`
             : `${wrong.length} of ${counted(this.boot.events.length, 'event')}`
                 + (wrong.length > MOST_WRITES ? `; the first ${MOST_WRITES}:` : ':');
-        const differing = [...this.boot.expectations.values()].filter((fields) => fields[7] === 'differs');
+        const differing = [...this.boot.expectations.values()].filter(({effect}) => effect === 'differs');
         if (differing.length > 0) {
             byId('writes-count').prepend(`Expected values that differ: ${differing.length}. `);
         }
-        const lines = [...wrong.map((event) => event.fields), ...differing].slice(0, MOST_WRITES)
-            .sort((one, other) => one[2] - other[2]);
-        byId('writes').hidden = lines.length === 0;
-        fillTable(byId('writes'), lines, (row, fields) => {
-            const line = Number(fields[2]);
-            row.className = fields[7];
-            makeButton(row.cells[2], `Line ${line} of the script`, () => this.editor.goTo(line));
+        const rows = [...wrong.map((event) => event.row), ...differing].slice(0, MOST_WRITES)
+            .sort((one, other) => one.line - other.line);
+        byId('writes').hidden = rows.length === 0;
+        fillTable(byId('writes'), rows, (tr, row, cells) => {
+            const line = Number(row.line);
+            tr.className = row.effect;
+            makeButton(cells.line, `Line ${line} of the script`, () => this.editor.goTo(line));
         });
-        const reasons = new Set(lines.flatMap((fields) => fields[8].match(/[a-z]+/g) ?? []));
+        const reasons = new Set(rows.flatMap((row) => row.reasons.match(/[a-z]+/g) ?? []));
         fillTexts(byId('reasons'), [...reasons].map((reason) => [reason, data.reasons[reason]]));
     }
 
@@ -391,7 +391,7 @@ function sayEvent({line, register, effect}) {
     return `line ${line}: ${register}${register === effect ? '' : ` ${effect}`}`;
 }
 
-function classOfEntry([, matching, , , , , lock, address, , holds]) {
+function classOfEntry({matching, lock, address, holds}) {
     if (lock === '-' && address === '-' && matching === 'off') return 'open-off';
     if (holds !== '') return 'holds';
     return lock;

@@ -8,9 +8,9 @@ const NAMES_AT = 930;
 const LETTER = 8; // at least the width of one
 const MOST_LETTERS = 40;
 
-// A picture with one column more: what the row of each band ends with. A long text is cut; the runs have it whole.
+// A picture with one column more: the names of each band's row. A long text is cut; the runs have it whole.
 function withNames(picture, rows) {
-    const texts = ['Names', ...rows.map((fields) => cutText(fields.at(-1)))];
+    const texts = ['Names', ...rows.map((row) => cutText(row.names))];
     const more = LETTER * Math.max(...texts.map((text) => text.length)) + 10;
     const cell = (text) => `<text class='names' x='${NAMES_AT}'>${escapeText(text)}</text>`;
     let band = 0;

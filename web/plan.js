@@ -10,10 +10,19 @@ const REST = '0'; // the number of the verdict on the bytes of no row
 const isPlan = (text) => text.split('\n', 1)[0].replace(/\r$/, '') === PLAN_HEADER;
 
 // What a verdict's byte has: by which entry, the rights of M, those of S and U, and whether it is held; or ''.
-function sayUnmet([, verdict, , owner, machine, others, held]) {
+function sayUnmet({verdict, owner, mrights, surights, held}) {
     if (verdict === 'met') return '';
     const by = owner === '-' ? 'no entry' : `entry ${owner}`;
-    return `${by}: ${machine}, ${others}, ${held === 'yes' ? 'held' : 'not held'}`;
+    return `${by}: ${mrights}, ${surights}, ${held === 'yes' ? 'held' : 'not held'}`;
+}
+
+// A verdict as it is shown, with what the row of that number among the plan's lines asks for.
+function planRow(judged, lines) {
+    const {row, verdict, byte} = judged;
+    const has = sayUnmet(judged);
+    const fields = PLAN_HEADER.split(',');
+    if (row === REST) return {row: '-', verdict, ...blankRow(fields), name: 'bytes of no row', byte, has};
+    return {row, verdict, ...rowOf(fields, lines[Number(row)].split(',')), byte, has};
 }
 
 class Plan {
@@ -24,7 +33,6 @@ class Plan {
         this.opened = opened;
         this.changed = changed;
         this.area = byId('plan');
-        this.lines = [];
         this.script = null;
         offerNames(byId('plan-name'), plans);
         byId('plan-name').value = '';
@@ -95,24 +103,18 @@ class Plan {
         const answer = given ? this.unit.meets(script, after, this.bytes) : null;
         const fails = given && answer.status !== 0;
         this.showFault(fails ? answer : null);
-        this.draw(given && !fails ? linesOf(answer.text, ',') : []);
+        this.draw(given && !fails ? answer.rows : []);
         byId('plan-make').disabled = !given || fails;
     }
 
     draw(verdicts) {
         byId('plan-region').hidden = verdicts.length === 0;
         byId('plan-count').textContent = verdicts.length === 0 ? '' : sayMet(verdicts);
-        const rows = this.area.value.split('\n').map((line) => line.replace(/\r$/, '').split(','));
-        this.lines = verdicts.map((verdict) => {
-            const [first, last, machine, others, locked, name] = verdict[0] === REST
-                ? ['', '', '', '', '', 'bytes of no row'] : rows[Number(verdict[0])];
-            return [verdict[0] === REST ? '-' : verdict[0], verdict[1], first, last, machine, others, locked, name,
-                verdict[2], sayUnmet(verdict)];
-        });
-        const shown = this.lines.length > MOST_PLAN_ROWS ? [...this.lines.slice(0, MOST_PLAN_ROWS), this.lines.at(-1)]
-            : this.lines;
-        fillTable(byId('plan-rows'), shown, (row, fields) => {
-            row.className = fields[1] === 'met' ? 'holds' : 'unmet';
+        const lines = this.area.value.split('\n').map((line) => line.replace(/\r$/, ''));
+        const rows = verdicts.map((verdict) => planRow(verdict, lines));
+        const shown = rows.length > MOST_PLAN_ROWS ? [...rows.slice(0, MOST_PLAN_ROWS), rows.at(-1)] : rows;
+        fillTable(byId('plan-rows'), shown, (tr, row) => {
+            tr.className = row.verdict === 'met' ? 'holds' : 'unmet';
         });
     }
 
@@ -149,7 +151,8 @@ function sayPlanAdvice(fault) {
 // How many rows are met, and whether the bytes of no row are as they would be without entries.
 function sayMet(verdicts) {
     const [rows, rest] = [verdicts.slice(0, -1), verdicts.at(-1)];
-    const met = rows.filter(([, verdict]) => verdict === 'met').length;
-    return `${met} of ${counted(rows.length, 'row')} met; bytes of no row are ${rest[1] === 'met' ? '' : 'not all '}as `
-        + `without entries${rows.length > MOST_PLAN_ROWS ? `; the first ${MOST_PLAN_ROWS} rows:` : '.'}`;
+    const met = rows.filter(({verdict}) => verdict === 'met').length;
+    const all = rest.verdict === 'met' ? '' : 'not all ';
+    return `${met} of ${counted(rows.length, 'row')} met; bytes of no row are ${all}as without entries`
+        + (rows.length > MOST_PLAN_ROWS ? `; the first ${MOST_PLAN_ROWS} rows:` : '.');
 }

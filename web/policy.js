@@ -102,8 +102,7 @@ function readRow(fields, names, moments) {
     if (fields.length !== names.length) {
         return {status: BAD_ROW, wanted: `Wanted: the ${names.length} fields ${names.join()}. Here: ${fields.length}.`};
     }
-    const [name, words, comment] = names === FIELDS ? ['', fields, '']
-        : [fields[0], fields.slice(1, -1), fields.at(-1)];
+    const {name = '', comment = '', ...words} = rowOf(names, fields);
     if (hasControl(name)) return {status: BAD_ROW, wanted: 'name has to be a text without control characters.'};
     return {...readDemand(words, comment, moments), words, name, comment};
 }
@@ -112,16 +111,17 @@ function hasControl(text) {
     return [...text].some((letter) => letter < ' ' || letter === '\x7f');
 }
 
-// What seven words demand, or the first rule that they or the comment break.
-function readDemand(fields, comment, moments) {
+// What a row's words demand, or the first rule that they or the comment break.
+function readDemand(words, comment, moments) {
     const bad = (wanted, status = BAD_ROW) => ({status, wanted});
-    const [first, last] = [fields[4], fields[5]].map(readNumber);
-    const from = moments.read(fields[0]);
-    const to = moments.read(fields[1] === '' ? `${moments.last}` : fields[1]);
-    const [modes, kind, demand] = [readModes(fields[2]), wordIn(POLICY_KINDS, fields[3]), wordIn(DEMANDS, fields[6])];
+    const [first, last] = [words.first, words.last].map(readNumber);
+    const from = moments.read(words.from);
+    const to = moments.read(words.to === '' ? `${moments.last}` : words.to);
+    const [modes, kind] = [readModes(words.modes), wordIn(POLICY_KINDS, words.kind)];
+    const demand = wordIn(DEMANDS, words.demand);
     if (from.status) return bad(`from has to be ${WANTED_MOMENT}.`, from.status);
     if (to.status) return bad(`to has to be ${WANTED_MOMENT}, or empty for all.`, to.status);
-    if (fields[1] !== '' && from.isNumber && to.isNumber && to.at < from.at) return bad('to has to be at least from.');
+    if (words.to !== '' && from.isNumber && to.isNumber && to.at < from.at) return bad('to has to be at least from.');
     if (modes === null) return bad('modes has to be one to three of the letters M, S and U, none twice.');
     if (kind === null) return bad('kind has to be fetch, load, store or any.');
     if (first === null) return bad('first has to be a byte address, a number.');

@@ -4,7 +4,7 @@ function reportOf(page) {
     const {by, at} = page.moment;
     const parts = [
         [byId('decisions').caption.textContent, 'decisions', rowsSeen('decisions')],
-        ['Memory map', 'runs', page.runs()],
+        ['Memory map', 'runs', page.runs().map((row) => Object.values(row))],
         ['Plan', 'plan-rows', rowsSeen('plan-rows')],
         ['Entries', 'entries', rowsSeen('entries')],
         ['Policy', 'verdicts', rowsSeen('verdicts')],

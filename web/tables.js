@@ -1,15 +1,10 @@
-// Lines of an answer as the rows of a table. A cell's text is the field's.
+// Rows of an answer as those of a table. A row's values are the texts of its cells, in the order of its keys.
 
-// linesOf("a,b\nc,d\n", ","): [["a", "b"], ["c", "d"]]
-function linesOf(text, parting) {
-    return text === '' ? [] : text.slice(0, -1).split('\n').map((line) => line.split(parting));
-}
-
-function addCell(row, column, name) {
+function addCell(tr, column, head) {
     const cell = document.createElement(column === 0 ? 'th' : 'td');
     if (column === 0) cell.scope = 'row';
-    cell.dataset.name = name;
-    row.append(cell);
+    cell.dataset.name = head;
+    tr.append(cell);
     return cell;
 }
 
@@ -19,19 +14,22 @@ function columnsOf(table) {
 }
 
 // Rows and cells that are there stay, and only texts that differ are set: a move of the slider changes few of them. On
-// a narrow screen a cell shows the name of its column.
-function fillTable(table, lines, dress = () => {}) {
+// a narrow screen a cell shows the name of its column. dress: a function that takes the table's row, the answer's, and
+// the cells by the keys of that
+function fillTable(table, rows, dress = () => {}) {
     const body = table.tBodies[0];
-    const names = columnsOf(table);
-    while (body.rows.length > lines.length) body.deleteRow(-1);
-    lines.forEach((fields, place) => {
-        const row = body.rows[place] ?? body.insertRow();
-        while (row.cells.length > fields.length) row.deleteCell(-1);
-        fields.forEach((field, column) => {
-            const cell = row.cells[column] ?? addCell(row, column, names[column]);
-            if (cell.textContent !== field) cell.textContent = field;
+    const heads = columnsOf(table);
+    while (body.rows.length > rows.length) body.deleteRow(-1);
+    rows.forEach((row, place) => {
+        const tr = body.rows[place] ?? body.insertRow();
+        const cells = {};
+        Object.entries(row).forEach(([name, text], column) => {
+            const cell = tr.cells[column] ?? addCell(tr, column, heads[column]);
+            if (cell.textContent !== text) cell.textContent = text;
+            cells[name] = cell;
         });
-        dress(row, fields);
+        while (tr.cells.length > Object.keys(row).length) tr.deleteCell(-1);
+        dress(tr, row, cells);
     });
 }
 

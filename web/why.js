@@ -6,27 +6,27 @@ const TABLES = {
     smepmp: 'read by the truth table of Smepmp, since MML is 1',
 };
 
-// The fields of the row, with the names of the entry's bytes behind them where names are given.
-function sayWhy([since, , , , entry, ...fields], by) {
+// The row, with the names of the entry's bytes where names are given.
+function sayWhy(reason, by) {
+    const {since, entry, matching, bits, table, names} = reason;
     const moment = since === '0' ? 'It has been so from the start.' : `It has been so since ${by} ${since}.`;
     if (entry === '') return [[moment]];
-    const [matching, first, last, bits, table, lock, held, configured, addressed, lowEnd, names] = fields;
-    const [from, to] = [first, last].map((address) => `0x${BigInt(`0x${address}`).toString(16)}`);
+    const [from, to] = [reason.first, reason.last].map((address) => `0x${BigInt(`0x${address}`).toString(16)}`);
     const rule = [...bits].map((bit, place) => `${'LRWX'[place]} = ${bit}`).join(', ');
     return [
         [moment],
         [`Entry ${entry} is ${matching.toUpperCase()} and matches ${from} to ${to}${names ? `: ${names}` : ''}.`],
         [`Its bits are ${rule}, ${TABLES[table]}.`],
-        [sayLock(lock, held, entry)],
+        [sayLock(reason)],
         sayLines([
-            ['its configuration byte', configured],
-            ['its address register', addressed],
-            ['the low end of its range', lowEnd],
+            ['its configuration byte', reason.configured],
+            ['its address register', reason.addressed],
+            ['the low end of its range', reason.lowend],
         ]),
     ];
 }
 
-function sayLock(lock, held, entry) {
+function sayLock({lock, held, entry}) {
     if (lock === '-') return 'It isn’t locked.';
     if (lock === 'bypassed') return 'It is locked, but bypassed: RLB is 1.';
     if (held !== 'held') return 'It is frozen, but not held: an entry before it isn’t frozen.';

@@ -42,3 +42,4 @@ pub mod DraftHolds
 pub mod DraftSteps
 pub mod OneDraft
 pub mod WrittenDrafts
+pub mod AuditedRows

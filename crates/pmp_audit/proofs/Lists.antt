@@ -1,6 +1,21 @@
 -- Lists side by side.
-use Rattle.std.proofs.Common.{◌≡◌, List, [], ◌∷◌, ◌++◌, map, refl}
-use Rattle.std.specs.List.{AllZip}
+use Rattle.std.proofs.Common.{◌≡◌, ◌∙◌, ◌+◌, ◌<◌, ℕ, Bool, true, false, List, [], ◌∷◌, ◌++◌, map, refl, sym, ap, arith}
+use Rattle.std.proofs.Common.{get_or, length, take}
+use mir.Val.{bool_byte}
+use Rattle.std.specs.List.{AllZip, count_by}
+use Rattle.std.proofs.lemmas.List.Sums.{count_by_more_no, count_by_more_yes}
+
+-- one item more counts, or doesn't
+module _ {X : Type 0} (p : X → Bool) (xs : List X) (i : ℕ) (d : X) (inside : i < length xs) (count : ℕ)
+    (so_far : count ≡ count_by p (take i xs)) where
+  more_by : (counts : Bool) → p (get_or xs i d) ≡ counts → count + bool_byte counts ≡ count_by p (take (i + 1) xs)
+  more_by true is = ap (λ (n : ℕ). n + 1) so_far ∙ sym (count_by_more_yes p xs i d inside is)
+  more_by false isnt =
+      let same : count + 0 ≡ count = omega arith in
+      same ∙ so_far ∙ sym (count_by_more_no p xs i d inside isnt)
+
+  pub count_more : count + bool_byte (p (get_or xs i d)) ≡ count_by p (take (i + 1) xs)
+  count_more = more_by (p (get_or xs i d)) refl
 
 -- where a function has one value for each item, there is one list with its values
 pub one_by_map : {A B : Type 0} (f : A → B) → ((x y : A) → f x ≡ f y → x ≡ y) → (xs ys : List A) → map f xs ≡ map f ys

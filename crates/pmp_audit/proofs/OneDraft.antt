@@ -20,7 +20,7 @@ use Rattle.pmp_audit.specs.declared.policy_check.Breaches.{Breaches}
 use Rattle.pmp_audit.specs.declared.policy_check.Breaches.TheVariants as breaches
 use Rattle.pmp_audit.specs.PolicyBreaches.{IsTold}
 use Rattle.pmp_audit.specs.PolicyCheck.{IsVerdict}
-use Rattle.pmp_audit.specs.PolicyTexts.{policy_summary, told_text}
+use Rattle.pmp_audit.specs.PolicyTexts.{all_told_rows, policy_summary}
 use Rattle.pmp_audit.specs.PolicyDraft.{AreNeverRows, IsDraftText, IsModeText, header_text, last_moment, never_row}
 use Rattle.pmp_audit.proofs.OneClosedList.{one_closed_list}
 use Rattle.pmp_audit.proofs.OnePolicyAnswer.{one_policy_answer}
@@ -78,13 +78,13 @@ none_broken [] = refl
 none_broken (row ∷ more) = none_broken more
 
 pub unbroken_draft : DraftHoldsLaw
-unbroken_draft breaches pace script draft summary text is said =
+unbroken_draft breaches pace script draft summary answer is said =
     let contents : said.contents ≡ is.contents = cc (said.script_means, is.script_means) in
     let moments = rw contents at said.moments_are in
     let rows = is.holds.rows in
     let verdicts = map (λ (_ : PolicyRow). Holds) rows in
-    let one = one_policy_answer breaches pace script draft summary (policy_summary rows verdicts) text
-    (told_text (policy_labels draft) (map (λ (_ : PolicyRow). Holds ∷ []) rows)) said (record {
+    let one = one_policy_answer breaches pace script draft summary (policy_summary rows verdicts) answer
+    (all_told_rows (policy_labels draft) (map (λ (_ : PolicyRow). Holds ∷ []) rows)) said (record {
       contents = is.contents;
       script_means = is.script_means;
       moments = said.moments;
@@ -96,7 +96,7 @@ unbroken_draft breaches pace script draft summary text is said =
           (recursion_from_All (λ row. IsVerdict pace is.contents row Holds) rows (is.holds.hold pace));
       told = map (λ (_ : PolicyRow). Holds ∷ []) rows;
       told_are = all_told breaches pace is.contents rows;
-      text_is = refl;
+      answer_is = refl;
       counted = refl;
     }) in
     ap (λ summary. summary.broken) one.0 ∙ none_broken rows

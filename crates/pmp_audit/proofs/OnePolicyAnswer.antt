@@ -25,7 +25,7 @@ use Rattle.pmp_audit.specs.Laws.{OnePolicyAnswerLaw}
 use Rattle.pmp_audit.specs.PolicyCheck.{IsBroken, IsFirstBreach, IsFirstIn, IsFirstNotHeld, IsFirstOf, IsFirstOfAll}
 use Rattle.pmp_audit.specs.PolicyCheck.{IsFirstRun, IsNotHeld}
 use Rattle.pmp_audit.specs.PolicyCheck.{IsBreachOf, IsVerdict, IsVerdictBy, IsVerdictOn, state_after, step_count}
-use Rattle.pmp_audit.specs.PolicyTexts.{policy_summary, told_text}
+use Rattle.pmp_audit.specs.PolicyTexts.{policy_summary, all_told_rows}
 use Rattle.pmp_audit.specs.PolicyBreaches.{IsTold}
 use Rattle.pmp_audit.proofs.OneListOfBreaches.{told_alike}
 use Rattle.pmp_audit.proofs.Lists.{one_by_map, one_list}
@@ -198,5 +198,5 @@ one_policy_answer breaches pace script policy one other text another said too =
     (rw (contents, rows, verdicts) at said.told_are) too.told_are in (
       said.counted ∙ ap (λ rows. policy_summary rows said.verdicts) rows ∙ ap (policy_summary too.rows) verdicts
           ∙ sym too.counted,
-      said.text_is ∙ ap (told_text (policy_labels policy)) told ∙ sym too.text_is,
+      said.answer_is ∙ ap (all_told_rows (policy_labels policy)) told ∙ sym too.answer_is,
     )

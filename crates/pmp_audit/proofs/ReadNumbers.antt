@@ -17,7 +17,7 @@ use Rattle.std.proofs.lemmas.Grind.{common_steps}
 use Rattle.csv.specs.Quoting.{needs_byte}
 use Rattle.csv.specs.Writing.{default_writer}
 use Rattle.pmp_text.specs.Numbers.{is_bare, is_numeral, numeral, word_number}
-use Rattle.pmp_lint.specs.Findings.{address_text}
+use Rattle.pmp_audit.specs.PolicyDraft.{address_text}
 use Rattle.pmp_audit.proofs.PlainRows.{Plain}
 
 -- ---- digits

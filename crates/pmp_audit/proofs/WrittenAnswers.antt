@@ -1,12 +1,14 @@
 -- What a call answers that made a text.
-use Rattle.std.proofs.Common.{◌≡◌, ◌⊎◌, ℕ, ◌++◌, List, [], Option, Result, Ok, Err, ap, inl, inr, ◌∙◌}
+use Rattle.std.proofs.Common.{Global, Vec}
+use Rattle.std.proofs.Common.{◌≡◌, ◌⊎◌, ℕ, ◌++◌, List, [], Option, Result, Ok, Err, ap, inl, inr, refl, ◌∙◌}
 use Rattle.std.specs.Prelude.{IfOk, IfErr}
 use Rattle.std.specs.Io.KnownBytes.{Appends, Keeps}
 use Rattle.pmp_text.specs.Bytes.{AppendsBeginning}
+use Rattle.pmp_text.specs.Cells.{RowValue, csv_text}
 use Rattle.pmp_audit.specs.declared.fault.ReportFault.{ReportFault}
 use Rattle.pmp_audit.specs.declared.fault.ReportFault.TheVariants.{Memory}
 use Rattle.pmp_audit.specs.declared.fault.ReportFault.TheVariants.{Output}
-use Rattle.pmp_audit.specs.Answers.{Declines, IsAppended, IsWritten, IsRefused}
+use Rattle.pmp_audit.specs.Answers.{AreAdded, Declines, InCsv, IsAppended, IsRefused, IsWritten}
 
 -- what was appended to an empty text is all of it
 pub whole : {A : Type 0} (Says : A → List ℕ → Type 0) (before after held : List ℕ) (made : Result A ReportFault)
@@ -54,5 +56,31 @@ module _ {A : Type 0} (Says : A → List ℕ → Type 0) (start after held : Lis
       → (Refuses Output → ⊥) → IfErr result (IsRefused Says before next Refuses)
   refused_so Refuses result told it empty same bad never = refused Says before next held made
       (whole Says start after held made it empty same) Refuses never bad result told
+
+-- the same of rows that were added to a text
+in_csv : {A : Type 0} (Says : A → List RowValue → Type 0) (start after : Vec ℕ Global) (made : Result A ReportFault)
+    → IfOk made (AreAdded (λ rows before after. after.items ≡ before.items ++ csv_text rows) Says start after)
+    → IfOk made (IsAppended (InCsv Says) start.items after.items)
+in_csv Says start after (Ok answer) it =
+    record { text = csv_text it.rows; says = (it.rows, it.says, refl); appended = it.added }
+in_csv Says start after (Err fault) none = tt
+
+module _ {A : Type 0} (Says : A → List RowValue → Type 0) (start after : Vec ℕ Global) (held : List ℕ)
+    (made : Result A ReportFault) (before next : Option (List ℕ)) where
+  pub written_rows : (result : Result A ReportFault)
+      → IfOk result (λ given. (made ≡ Ok given) × Appends before next held)
+      → IfOk made (AreAdded (λ rows before after. after.items ≡ before.items ++ csv_text rows) Says start after)
+      → start.items ≡ [] → held ≡ after.items → IfOk result (IsWritten (InCsv Says) before next)
+  written_rows result told it = written_so (InCsv Says) start.items after.items held made before next result told
+      (in_csv Says start after made it)
+
+  pub refused_rows : (Refuses : ReportFault → Type 0) (result : Result A ReportFault)
+      → IfErr result (λ fault. ((made ≡ Err fault) × Keeps before next)
+      ⊎ ((given : A) × (made ≡ Ok given) × (fault ≡ Output) × AppendsBeginning before next held))
+      → IfOk made (AreAdded (λ rows before after. after.items ≡ before.items ++ csv_text rows) Says start after)
+      → start.items ≡ [] → held ≡ after.items → IfErr made (Declines Refuses)
+      → (Refuses Output → ⊥) → IfErr result (IsRefused (InCsv Says) before next Refuses)
+  refused_rows Refuses result told it = refused_so (InCsv Says) start.items after.items held made before next Refuses
+      result told (in_csv Says start after made it)
 
 pub ruleset answer_rules = (written_so, refused_so)

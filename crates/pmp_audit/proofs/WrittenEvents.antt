@@ -1,8 +1,8 @@
 -- The rows of events, written one by one.
 use Rattle.std.proofs.Common.{◌≡◌, ℕ, suc, cond, ◌+◌, ◌<◌, min, List, [], ◌∷◌, ◌++◌, length}
-use Rattle.std.proofs.Common.{take, get_or}
-use Rattle.std.proofs.Common.{refl, sym, ap, ◌∙◌, append_assoc, append-nil, arith}
-use Rattle.std.specs.List.{count_by, enumerate_from, flat_map, slice_index_or, zip}
+use Rattle.std.proofs.Common.{map, take, get_or}
+use Rattle.std.proofs.Common.{refl, sym, ap, ◌∙◌, append_assoc, arith}
+use Rattle.std.specs.List.{count_by, enumerate_from, slice_index_or, zip}
 use Rattle.std.proofs.lemmas.List.{take_all, take_more, take-append-le, length-append}
 use Rattle.std.proofs.lemmas.List.{length_push, length-map, get_or-map}
 use Rattle.std.proofs.lemmas.List.Sums.{sum_by-cons}
@@ -10,11 +10,12 @@ use Rattle.std.proofs.lemmas.Slice.Zip.{length-zip, get_or-zip}
 use Rattle.pmp_core.specs.declared.event.Event.{Event}
 use Rattle.pmp_core.specs.RegisterFile.{RegisterFile}
 use Rattle.pmp_core.specs.RegisterWrite.{step}
+use Rattle.pmp_text.specs.Cells.{RowValue}
 use Rattle.pmp_text.specs.Contents.{ScriptContents}
 use Rattle.pmp_text.specs.Effects.{effect_row}
 use Rattle.pmp_lint.proofs.Growing.{of_range_more}
 use Rattle.pmp_audit.specs.declared.write_list.EventSummary.{EventSummary}
-use Rattle.pmp_audit.specs.WriteList.{PlacedEvent, placed, events_of, file_before, rows_text, has_fault}
+use Rattle.pmp_audit.specs.WriteList.{PlacedEvent, placed, events_of, file_before, event_rows, has_fault}
 use Rattle.pmp_audit.specs.WriteList.{event_summary}
 use Rattle.pmp_audit.specs.EventRows.{file_left, rows_from, turned_from, Written, AreWritten}
 
@@ -26,14 +27,12 @@ rows-append : (number : ℕ) (file : RegisterFile) (xs ys : List PlacedEvent)
 rows-append number file [] ys = let same : number ≡ number + 0 = omega arith in
     ap (λ (n : ℕ). rows_from n file ys) same
 rows-append number file (it ∷ xs) ys =
-    let row =
-    effect_row (record { number = number; publication = it.publication; line = it.line }) file it.event in
+    let row = effect_row (record { number = number; publication = it.publication; line = it.line }) file it.event in
     let next = step file it.event in
     let front = rows_from (number + 1) next xs in
     let same : number + 1 + length xs ≡ number + suc (length xs) = omega arith in
-    ap (λ (l : List ℕ). row ++ l) (rows-append (number + 1) next xs ys
+    ap (λ (l : List RowValue). row ∷ l) (rows-append (number + 1) next xs ys
     ∙ ap (λ (n : ℕ). front ++ rows_from n (file_left next xs) ys) same)
-    ∙ sym (append_assoc row front (rows_from (number + suc (length xs)) (file_left next xs) ys))
 
 left-append : (file : RegisterFile) (xs ys : List PlacedEvent)
     → file_left file (xs ++ ys) ≡ file_left (file_left file xs) ys
@@ -47,39 +46,40 @@ turned-append accepted file [] ys = omega arith
 turned-append accepted file (it ∷ xs) ys =
     let rest = turned-append accepted (step file it.event) xs ys in omega arith
 
-pub written_then : (accepted : List ℕ) (from mid to : Written) (xs ys : List PlacedEvent)
-    → AreWritten accepted from mid xs → AreWritten accepted mid to ys → AreWritten accepted from to (xs ++ ys)
-written_then accepted from mid to xs ys first second =
-    let n = from.summary.events + 1 in
-    let number : mid.summary.events + 1 ≡ n + length xs = let c = first.counted in omega arith in
-    record {
-      rows = second.rows ∙ ap (λ (l : List ℕ). l ++ rows_from (mid.summary.events + 1) mid.file ys) first.rows
-          ∙ append_assoc from.text (rows_from n from.file xs) (rows_from (mid.summary.events + 1) mid.file ys)
-          ∙ ap (λ (m : ℕ). from.text ++ (rows_from n from.file xs ++ rows_from m mid.file ys)) number
-          ∙ ap (λ (file : RegisterFile). from.text ++ (rows_from n from.file xs
-          ++ rows_from (n + length xs) file ys)) first.file_is
-          ∙ ap (λ (l : List ℕ). from.text ++ l) (sym (rows-append n from.file xs ys));
-      file_is = second.file_is ∙ ap (λ (file : RegisterFile). file_left file ys) first.file_is
-          ∙ sym (left-append from.file xs ys);
-      counted = omega (arith, first.counted, second.counted, length-append xs ys);
-      turned =
-          let one = first.turned in
-          let two = second.turned ∙ ap (λ (file : RegisterFile). mid.summary.not_stored + turned_from accepted file ys)
-          first.file_is in
-          let both = turned-append accepted from.file xs ys in
-          omega arith;
-    }
+module _ {A : Type 0} (Adds : List RowValue → A → A → Type 0)
+    (both : (one other : List RowValue) (first second third : A) → Adds one first second → Adds other second third
+    → Adds (one ++ other) first third) where
+  pub written_then : (accepted : List ℕ) (from mid to : Written A) (xs ys : List PlacedEvent)
+      → AreWritten Adds accepted from mid xs → AreWritten Adds accepted mid to ys
+      → AreWritten Adds accepted from to (xs ++ ys)
+  written_then accepted from mid to xs ys first second =
+      let n = from.summary.events + 1 in
+      let number : mid.summary.events + 1 ≡ n + length xs = let c = first.counted in omega arith in
+      record {
+        added = rw (rows-append n from.file xs ys)
+            (both _ _ _ _ _ first.added (rw (number, first.file_is) at second.added));
+        file_is = second.file_is ∙ ap (λ (file : RegisterFile). file_left file ys) first.file_is
+            ∙ sym (left-append from.file xs ys);
+        counted = omega (arith, first.counted, second.counted, length-append xs ys);
+        turned =
+            let one = first.turned in
+            let two = second.turned ∙ ap (λ (file : RegisterFile). mid.summary.not_stored + turned_from accepted file ys)
+            first.file_is in
+            let both = turned-append accepted from.file xs ys in
+            omega arith;
+      }
 
-pub one_written : (accepted : List ℕ) (from to : Written) (it : PlacedEvent)
-    → to.text ≡ from.text ++ effect_row (record {
+pub one_written : {A : Type 0} (Adds : List RowValue → A → A → Type 0) (accepted : List ℕ) (from to : Written A)
+    (it : PlacedEvent) → Adds (effect_row (record {
       number = from.summary.events + 1;
       publication = it.publication;
       line = it.line;
-    }) from.file it.event → to.file ≡ step from.file it.event → to.summary.events ≡ from.summary.events + 1
+    }) from.file it.event ∷ []) from.rows to.rows → to.file ≡ step from.file it.event
+    → to.summary.events ≡ from.summary.events + 1
     → to.summary.not_stored ≡ from.summary.not_stored + cond (has_fault accepted from.file it.line it.event) 1 0
-    → AreWritten accepted from to (it ∷ [])
-one_written accepted from to it row file counted turned = record {
-  rows = row ∙ ap (λ (l : List ℕ). from.text ++ l) (sym (append-nil _));
+    → AreWritten Adds accepted from to (it ∷ [])
+one_written Adds accepted from to it row file counted turned = record {
+  added = row;
   file_is = file;
   counted = counted;
   turned = turned ∙ ap (λ (m : ℕ). from.summary.not_stored + m) (omega arith);
@@ -88,7 +88,7 @@ one_written accepted from to it row file counted turned = record {
 -- ---- by places
 
 module _ (start : RegisterFile) where
-  abbrev row_at : List PlacedEvent → (k : ℕ) → PlacedEvent → List ℕ
+  abbrev row_at : List PlacedEvent → (k : ℕ) → PlacedEvent → RowValue
   row_at events k it = effect_row (record {
     number = k + 1;
     publication = it.publication;
@@ -109,24 +109,24 @@ module _ (start : RegisterFile) where
     next_file = left-append start before (it ∷ [])
 
   rows_by_place : (before rest : List PlacedEvent)
-      → flat_map (λ (k, it). row_at (before ++ rest) k it) (enumerate_from (length before) rest)
+      → map (λ (k, it). row_at (before ++ rest) k it) (enumerate_from (length before) rest)
       ≡ rows_from (length before + 1) (file_left start before) rest
   rows_by_place before [] = refl
   rows_by_place before (it ∷ rest) =
       let all = before ++ it ∷ rest in
       let file = file_left start before in
-      let row : RegisterFile → List ℕ = λ f. effect_row (record {
+      let row : RegisterFile → RowValue = λ f. effect_row (record {
         number = length before + 1;
         publication = it.publication;
         line = it.line;
       }) f it.event in
-      let tail : flat_map (λ (k, x). row_at all k x) (enumerate_from (length before + 1) rest)
+      let tail : map (λ (k, x). row_at all k x) (enumerate_from (length before + 1) rest)
       ≡ rows_from (length before + 1 + 1) (step file it.event) rest =
       rw (moved it before rest, length_push before it, next_file it before rest) at
       (rows_by_place (before ++ it ∷ []) rest) in
       ap (λ (f : RegisterFile). row f
-      ++ flat_map (λ (k, x). row_at all k x) (enumerate_from (length before + 1) rest)) (there before rest it)
-      ∙ ap (λ (l : List ℕ). row file ++ l) tail
+      ∷ map (λ (k, x). row_at all k x) (enumerate_from (length before + 1) rest)) (there before rest it)
+      ∙ ap (λ (l : List RowValue). row file ∷ l) tail
 
   turned_by_place : (accepted : List ℕ) (before rest : List PlacedEvent)
       → count_by (λ (k, it). has_fault accepted (file_before start (before ++ rest) k) it.line it.event)
@@ -146,8 +146,8 @@ module _ (start : RegisterFile) where
       ∙ ap (λ (f : RegisterFile). cond (has_fault accepted f it.line it.event) 1 0 + more) (there before rest it)
       ∙ ap (λ (m : ℕ). cond (has_fault accepted file it.line it.event) 1 0 + m) tail
 
-  pub rows_all : (events : List PlacedEvent) → rows_from 1 start events ≡ rows_text start events
-  unfolding rows_text
+  pub rows_all : (events : List PlacedEvent) → rows_from 1 start events ≡ event_rows start events
+  unfolding event_rows
   rows_all events = sym (rows_by_place [] events)
 
   pub summary_all : (accepted : List ℕ) (events : List PlacedEvent) (summary : EventSummary)

@@ -1,7 +1,8 @@
--- What a call returns that makes a text from its inputs, and appends or writes it.
+-- What a call returns that makes rows or a text from its inputs, and adds, appends or writes them.
 use Rattle.std.specs.Prelude.{◌≡◌, ℕ, List, ◌++◌, Option, ⊤}
 use Rattle.std.specs.Io.KnownBytes.{Appends, Keeps}
 use Rattle.pmp_text.specs.Bytes.{AppendsBeginning}
+use Rattle.pmp_text.specs.Cells.{RowValue, csv_text}
 use Rattle.pmp_audit.specs.declared.fault.ReportFault.{ReportFault}
 use Rattle.pmp_audit.specs.declared.fault.ReportFault.TheVariants.{Memory, Output}
 
@@ -15,6 +16,17 @@ pub record IsAppended {A : Type 0} (Says : A → List ℕ → Type 0) (before af
   pub text : List ℕ
   pub says : Says answer text
   pub appended : after ≡ before ++ text
+
+-- Says answer rows: these rows belong to this answer, and were added
+pub record AreAdded {A B : Type 0} (Adds : List RowValue → B → B → Type 0) (Says : A → List RowValue → Type 0)
+    (before after : B) (answer : A) : Type 0 where
+  pub rows : List RowValue
+  pub says : Says answer rows
+  pub added : Adds rows before after
+
+-- the text of such rows
+abbrev pub InCsv : {A : Type 0} → (Says : A → List RowValue → Type 0) → A → (text : List ℕ) → Type 0
+InCsv Says answer text = (rows : List RowValue) × Says answer rows × (text ≡ csv_text rows)
 
 -- Says answer text: this text belongs to this answer
 module _ {A : Type 0} (Says : A → List ℕ → Type 0) (before after : Option (List ℕ)) where

@@ -24,15 +24,15 @@ HasNone (Some (Labelled label)) script =
     × ((kind : Refusal) × (when_place moments (Labelled label) ≡ Err kind))
 HasNone _ script = ⊥
 
--- the script has these contents, with the publications asked for, and the text is one for those
-pub record SaysOfScript (IsTextOf : ScriptContents → (done : ℕ) → List ℕ → Type 0) (script : List ℕ)
-    (after : Option When) (text : List ℕ) : Type 0 where
+-- the script has these contents, with the publications asked for, and this is what is said of those
+pub record SaysOfScript {X : Type 0} (IsOf : ScriptContents → (done : ℕ) → X → Type 0) (script : List ℕ)
+    (after : Option When) (said : X) : Type 0 where
   pub contents : ScriptContents
   pub script_means : script_meaning script ≡ Ok contents
   pub done : ℕ
   pub asked : IsAsked after contents done
   pub within : done ≤ length contents.batches
-  pub text_is : IsTextOf contents done text
+  pub said_is : IsOf contents done said
 
 -- why the script lacks what is asked for: too few publications, or no such moment
 abbrev pub IsLacking : Option When → ScriptContents → ReportFault → Type 0

@@ -1,11 +1,11 @@
 -- The rows of what a script expects.
-use Rattle.std.specs.Prelude.{ℕ, ◌==◌, ◌&&◌, Bool, not, List, fold, take, count_by}
-use Rattle.std.specs.List.{flat_map}
+use Rattle.std.specs.Prelude.{ℕ, ◌==◌, ◌&&◌, Bool, not, List, fold, map, take, count_by}
 use Rattle.pmp_core.specs.Histories.{joined}
 use Rattle.pmp_core.specs.RegisterFile.{RegisterFile}
 use Rattle.pmp_core.specs.RegisterValue.{register_value}
 use Rattle.pmp_core.specs.RegisterWrite.{step}
 use Rattle.pmp_text.specs.declared.expectation.Expectation.{Expectation}
+use Rattle.pmp_text.specs.Cells.{RowValue}
 use Rattle.pmp_text.specs.Contents.{ScriptContents}
 use Rattle.pmp_text.specs.Expected.{expected_row}
 use Rattle.pmp_audit.specs.AcceptedReasons.{differs_text}
@@ -19,15 +19,17 @@ file_at_event script events = fold step script.start (take events (joined script
 abbrev pub value_there : ScriptContents → Expectation → ℕ
 value_there script expectation = register_value (file_at_event script expectation.events) expectation.register
 
-abbrev pub differs : ScriptContents → Expectation → Bool
-differs script expectation = not (value_there script expectation == expectation.value)
+-- it reads another value than expected, and that isn't accepted
+abbrev pub is_fault : (accepted : List ℕ) → Expectation → (value : ℕ) → Bool
+is_fault accepted expectation value =
+    not (value == expectation.value) && not (is_accepted accepted differs_text expectation.line)
 
 -- a row for each expectation
-abbrev pub expected_rows : ScriptContents → List Expectation → List ℕ
+abbrev pub expected_rows : ScriptContents → List Expectation → List RowValue
 expected_rows script expectations =
-    flat_map (λ expectation. expected_row expectation (value_there script expectation)) expectations
+    map (λ expectation. expected_row expectation (value_there script expectation)) expectations
 
--- how many of them differ where that isn't accepted
+-- how many of them are faults
 abbrev pub differing : (accepted : List ℕ) → ScriptContents → List Expectation → ℕ
 differing accepted script expectations =
-    count_by (λ it. differs script it && not (is_accepted accepted differs_text it.line)) expectations
+    count_by (λ expectation. is_fault accepted expectation (value_there script expectation)) expectations

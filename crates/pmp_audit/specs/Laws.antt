@@ -8,6 +8,7 @@ use Rattle.pmp_core.specs.ProtectionLaw.{StaysProtected}
 use Rattle.pmp_text.specs.declared.moments.When.{When}
 use Rattle.pmp_text.specs.declared.lines.since.Since.{Since}
 use Rattle.pmp_text.specs.declared.trace.TraceRow.{TraceRow}
+use Rattle.pmp_text.specs.Cells.{RowValue}
 use Rattle.pmp_text.specs.Contents.{ScriptContents}
 use Rattle.pmp_text.specs.Reports.{AreDecided, file_behind}
 use Rattle.pmp_audit.specs.declared.policy_check.Breaches.{Breaches}
@@ -36,27 +37,29 @@ OneReportLaw = (script trace : List ℕ) (one other : AuditSummary) (text anothe
 -- or without
 abbrev pub OnePolicyAnswerLaw : Type 0
 OnePolicyAnswerLaw = (breaches : Breaches) (pace : Pace) (script policy : List ℕ) (one other : PolicySummary)
-    (text another : List ℕ) → PolicySays breaches pace script policy one text
-    → PolicySays breaches pace script policy other another → (one ≡ other) × (text ≡ another)
+    (rows others : List RowValue) → PolicySays breaches pace script policy one rows
+    → PolicySays breaches pace script policy other others → (one ≡ other) × (rows ≡ others)
 
 -- a script has only one draft of a policy
 abbrev pub OneDraftLaw : Type 0
 OneDraftLaw = (script one other : List ℕ) → IsDraftOf script one → IsDraftOf script other → one ≡ other
 
--- of a script and its draft, `check_policy` says that no row is broken or unmet
+-- of a script and its draft, `add_policy` says that no row is broken or unmet
 abbrev pub DraftHoldsLaw : Type 0
 DraftHoldsLaw = (breaches : Breaches) (pace : Pace) (script draft : List ℕ) (summary : PolicySummary)
-    (text : List ℕ) → IsDraftOf script draft → PolicySays breaches pace script draft summary text → summary.broken ≡ 0
+    (rows : List RowValue) → IsDraftOf script draft → PolicySays breaches pace script draft summary rows
+    → summary.broken ≡ 0
 
 -- two scripts have only one list of differences, and one number of its rows
 abbrev pub OneDifferenceLaw : Type 0
 OneDifferenceLaw = (old : List ℕ) (old_after : Option When) (new : List ℕ) (new_after : Option When)
-    (asked : AskedChanges) (one other : ℕ) (text another : List ℕ) → DiffSays old old_after new new_after asked one text
-    → DiffSays old old_after new new_after asked other another → (one ≡ other) × (text ≡ another)
+    (asked : AskedChanges) (one other : ℕ) (rows others : List RowValue)
+    → DiffSays old old_after new new_after asked one rows → DiffSays old old_after new new_after asked other others
+    → (one ≡ other) × (rows ≡ others)
 
 abbrev pub OneEntryListLaw : Type 0
-OneEntryListLaw = (script : List ℕ) (after : Option When) (text other : List ℕ)
-    → SaysOfScript IsEntryList script after text → SaysOfScript IsEntryList script after other → text ≡ other
+OneEntryListLaw = (script : List ℕ) (after : Option When) (rows others : List RowValue)
+    → SaysOfScript IsEntryList script after rows → SaysOfScript IsEntryList script after others → rows ≡ others
 
 -- without a number, the entry isn't frozen in the end; with k, it is frozen after the first k batches and after more,
 -- with the same configuration and the same bytes

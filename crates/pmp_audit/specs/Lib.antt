@@ -1,5 +1,6 @@
 -- What a reader must trust: what each call returns.
 pub mod Answers
+pub mod AuditedRows
 pub mod AccessCheck
 pub mod TraceAudit
 pub mod SharedAudit

@@ -20,6 +20,7 @@ use Rattle.pmp_text.specs.declared.policy.Demand.{Demand}
 use Rattle.pmp_text.specs.declared.policy.Demand.TheVariants.{Never, Always, Held}
 use Rattle.pmp_text.specs.declared.policy.PolicyRow.{PolicyRow}
 use Rattle.pmp_text.specs.declared.trace.RowFault.{RowFault}
+use Rattle.pmp_text.specs.Cells.{RowValue}
 use Rattle.pmp_text.specs.Contents.{ScriptContents}
 use Rattle.pmp_text.specs.Outcomes.{no_input_for_rows}
 use Rattle.pmp_text.specs.declared.policy.row_fields.PolicyFields.{PolicyFields}
@@ -138,16 +139,16 @@ IsVerdict pace script row = IsVerdictOn row.coming (IsBreachOf pace script row)
 
 -- ---- one row's answer
 
--- the script has these contents, the fields form a row for it, and the text is the row's verdict with this number
+-- the script has these contents, the fields form a row for it, and there is one row, its verdict with this number
 pub record VerdictSays (pace : Pace) (script : List ℕ) (number : ℕ) (fields : PolicyFields) (verdict : Verdict)
-    (text : List ℕ) : Type 0 where
+    (answer : List RowValue) : Type 0 where
   pub contents : ScriptContents
   pub script_means : script_meaning script ≡ Ok contents
   pub row : PolicyRow
   pub row_is : policy_fields row ≡ fields
   pub proper : proper_fields_fault (length contents.batches) fields ≡ None
   pub judged : IsVerdict pace contents row verdict
-  pub text_is : text ≡ verdict_row number verdict None
+  pub answer_is : answer ≡ verdict_row number verdict None ∷ []
 
 -- the script's own fault, or else that of the row with this number
 abbrev pub VerdictRefuses : (script : List ℕ) → (number : ℕ) → PolicyFields → ReportFault → Type 0

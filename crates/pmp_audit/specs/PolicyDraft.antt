@@ -1,6 +1,6 @@
 -- A policy of what is closed after the last publication of a script.
 use Rattle.std.specs.Prelude.{◌≡◌, ℕ, Bool, List, [], ◌∷◌, ◌++◌, length, map, is_some, All, Ok, Err}
-use Rattle.std.specs.Prelude.{codes, decimal, if◌then◌else◌}
+use Rattle.std.specs.Prelude.{◌^◌, ◌-◌, false, codes, decimal, if◌then◌else◌}
 use Rattle.std.specs.List.{flat_map}
 use Rattle.pmp_core.specs.declared.access.Kind.{Kind}
 use Rattle.pmp_core.specs.declared.access.Kind.TheVariants.{Fetch, Load, Store}
@@ -16,13 +16,17 @@ use Rattle.pmp_text.specs.Policies.{policy_fields, policy_meaning}
 use Rattle.pmp_text.specs.Reports.{fields_after}
 use Rattle.pmp_text.specs.Scripts.{script_meaning}
 use Rattle.pmp_lint.specs.EndState.{end_of}
-use Rattle.pmp_lint.specs.Findings.{address_text}
+use Rattle.std.specs.Fmt.{digits, format_spec, padded_integral}
 use Rattle.pmp_audit.specs.declared.fault.ReportFault.{ReportFault}
 use Rattle.pmp_audit.specs.declared.fault.ReportFault.TheVariants.{Script}
 use Rattle.pmp_audit.specs.declared.policy_check.steps.Pace.{Pace}
 use Rattle.pmp_audit.specs.ClosedRanges.{AreClosedRanges}
 use Rattle.pmp_audit.specs.Moments.{AreMoments}
 use Rattle.pmp_audit.specs.PolicyCheck.{IsVerdict}
+
+-- a byte address in fourteen hexadecimal digits
+abbrev pub address_text : ℕ → List ℕ
+address_text address = padded_integral (format_spec 32 0 4 14 (2 ^ 64 - 1)) false [] (digits 16 false address)
 
 -- ---- its text
 

@@ -8,6 +8,7 @@ use Rattle.pmp_map.specs.ComparedRuns.{AreComparedRuns}
 use Rattle.pmp_text.specs.declared.lines.changes.Only.{Only}
 use Rattle.pmp_text.specs.declared.moments.When.{When}
 use Rattle.pmp_text.specs.Changes.{change_count, change_rows}
+use Rattle.pmp_text.specs.Cells.{RowValue}
 use Rattle.pmp_text.specs.Contents.{ScriptContents}
 use Rattle.pmp_text.specs.Reports.{file_of_script}
 use Rattle.pmp_text.specs.Scripts.{script_meaning}
@@ -26,39 +27,40 @@ pub record GivesFile (script : List ℕ) (after : Option When) (file : RegisterF
   pub within : done ≤ length contents.batches
   pub file_is : file ≡ file_of_script contents done
 
--- the text has a row for each longest range of bytes where the files differ in this aspect as asked for, and the rows
--- are counted
-pub record ChangesSay (aspect : Aspect) (old new : RegisterFile) (only : Option Only) (rows : ℕ) (text : List ℕ)
+-- there is a row for each longest range of bytes where the files differ in this aspect as asked for, and they are
+-- counted
+pub record ChangesSay (aspect : Aspect) (old new : RegisterFile) (only : Option Only) (count : ℕ) (rows : List RowValue)
     : Type 0 where
   pub runs : List ComparedRun
   pub runs_are : AreComparedRuns aspect old new runs
-  pub text_is : text ≡ change_rows only runs
-  pub counted : rows ≡ change_count only runs
+  pub rows_are : rows ≡ change_rows only runs
+  pub counted : count ≡ change_count only runs
 
 -- the rows of locks, or none if they aren't asked for
-abbrev pub LocksSay : (old new : RegisterFile) → Option Only → (has_locks : Bool) → (rows : ℕ) → (text : List ℕ) → Type 0
-LocksSay old new only true rows text = ChangesSay Locks old new only rows text
-LocksSay old new only false rows text = (rows ≡ 0) × (text ≡ [])
+abbrev pub LocksSay : (old new : RegisterFile) → Option Only → (has_locks : Bool) → (count : ℕ) → (rows : List RowValue)
+    → Type 0
+LocksSay old new only true count rows = ChangesSay Locks old new only count rows
+LocksSay old new only false count rows = (count ≡ 0) × (rows ≡ [])
 
 -- the rows of rights, then those of locks
-pub record FilesSay (old new : RegisterFile) (asked : AskedChanges) (rows : ℕ) (text : List ℕ) : Type 0 where
-  pub rights_rows : ℕ
-  pub rights_text : List ℕ
-  pub rights : ChangesSay Rights old new asked.only rights_rows rights_text
-  pub locks_rows : ℕ
-  pub locks_text : List ℕ
-  pub locks : LocksSay old new asked.only asked.has_locks locks_rows locks_text
-  pub text_is : text ≡ rights_text ++ locks_text
-  pub counted : rows ≡ rights_rows + locks_rows
+pub record FilesSay (old new : RegisterFile) (asked : AskedChanges) (count : ℕ) (rows : List RowValue) : Type 0 where
+  pub rights_count : ℕ
+  pub rights_rows : List RowValue
+  pub rights : ChangesSay Rights old new asked.only rights_count rights_rows
+  pub locks_count : ℕ
+  pub locks_rows : List RowValue
+  pub locks : LocksSay old new asked.only asked.has_locks locks_count locks_rows
+  pub rows_are : rows ≡ rights_rows ++ locks_rows
+  pub counted : count ≡ rights_count + locks_count
 
--- both scripts give a file, and the text has the differences asked for
+-- both scripts give a file, and the rows are the differences asked for
 pub record DiffSays (old : List ℕ) (old_after : Option When) (new : List ℕ) (new_after : Option When)
-    (asked : AskedChanges) (rows : ℕ) (text : List ℕ) : Type 0 where
+    (asked : AskedChanges) (count : ℕ) (rows : List RowValue) : Type 0 where
   pub old_file : RegisterFile
   pub new_file : RegisterFile
   pub old_gives : GivesFile old old_after old_file
   pub new_gives : GivesFile new new_after new_file
-  pub changes : FilesSay old_file new_file asked rows text
+  pub changes : FilesSay old_file new_file asked count rows
 
 -- the new script is refused like any other, if the old one gives a file
 abbrev pub NewRefuses : (old : List ℕ) → (old_after : Option When) → (new : List ℕ) → (new_after : Option When)

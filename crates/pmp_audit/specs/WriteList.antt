@@ -7,6 +7,7 @@ use Rattle.pmp_core.specs.declared.event.Event.TheVariants.{Write, Reset}
 use Rattle.pmp_core.specs.RegisterFile.{RegisterFile}
 use Rattle.pmp_core.specs.RegisterValue.{register_value}
 use Rattle.pmp_core.specs.RegisterWrite.{step, written}
+use Rattle.pmp_text.specs.Cells.{RowValue}
 use Rattle.pmp_text.specs.Contents.{ScriptContents}
 use Rattle.pmp_text.specs.Effects.{effect_row}
 use Rattle.pmp_text.specs.Scripts.{script_meaning}
@@ -43,9 +44,9 @@ abbrev pub file_before : (start : RegisterFile) → List PlacedEvent → (k : �
 file_before start events k = fold step start (map (λ it. it.event) (take k events))
 
 -- a row for each event, numbered from 1, in the file after the events before it
-unfoldable pub rows_text : (start : RegisterFile) → List PlacedEvent → List ℕ
-rows_text start events =
-    flat_map (λ (k, it).
+unfoldable pub event_rows : (start : RegisterFile) → List PlacedEvent → List RowValue
+event_rows start events =
+    map (λ (k, it).
     effect_row (record { number = k + 1; publication = it.publication; line = it.line })
     (file_before start events k) it.event)
     (enumerate_from 0 events)
@@ -70,8 +71,8 @@ event_summary accepted start events = record {
 }
 
 -- the rows of events, then those of expectations
-abbrev pub all_rows : ScriptContents → List ℕ
-all_rows script = rows_text script.start (placed_events script) ++ expected_rows script script.expectations
+abbrev pub all_rows : ScriptContents → List RowValue
+all_rows script = event_rows script.start (placed_events script) ++ expected_rows script script.expectations
 
 -- the counts of both
 abbrev pub write_summary : (accepted : List ℕ) → ScriptContents → WriteSummary
@@ -84,12 +85,12 @@ write_summary accepted script =
       differing = differing accepted script script.expectations;
     }
 
--- the script has these contents, the text has a row for each of its events and expectations, and they are counted
-pub record WritesSay (accepted : List ℕ) (script : List ℕ) (summary : WriteSummary) (text : List ℕ)
+-- the script has these contents, there is a row for each of its events and expectations, and they are counted
+pub record WritesSay (accepted : List ℕ) (script : List ℕ) (summary : WriteSummary) (rows : List RowValue)
     : Type 0 where
   pub contents : ScriptContents
   pub script_means : script_meaning script ≡ Ok contents
-  pub rows : text ≡ all_rows contents
+  pub rows_are : rows ≡ all_rows contents
   pub counted : summary ≡ write_summary accepted contents
 
 -- the script's own fault

@@ -1,13 +1,14 @@
 //! The rows of a policy, each judged in all states that it asks about.
 
-ghost use Rattle.std.specs.Prelude.{◌≡◌, ◌+◌, ◌^◌, ◌<◌, ◌≤◌, ◌++◌, All, IfOk, IfErr, OnErr, OnOk, length, map};
+ghost use Rattle.std.specs.Prelude.{◌≡◌, ◌+◌, ◌^◌, ◌<◌, ◌≤◌, ◌∷◌, [], All, IfOk, IfErr, OnErr, OnOk, length, map};
 ghost use Rattle.std.specs.Prelude.{ℕ, List, None, Ok, option_copied, option_map, slice_get};
+ghost use Rattle.pmp_text.specs.Cells.{AddsSome};
 ghost use Rattle.pmp_text.specs.Labels.{label_text};
 ghost use Rattle.pmp_text.specs.Scripts.{script_meaning};
 ghost use Rattle.pmp_text.specs.declared.lines.verdict.Verdict.{Verdict};
 ghost use Rattle.pmp_text.specs.declared.lines.verdict.Verdict.TheVariants.{Broken};
 ghost use Rattle.pmp_text.specs.Verdicts.{is_breach};
-ghost use Rattle.pmp_audit.specs.Answers.{Declines, IsAppended, IsWritten, IsRefused};
+ghost use Rattle.pmp_audit.specs.Answers.{AreAdded, Declines};
 ghost use Rattle.pmp_audit.specs.PolicyCheck.{PolicyRefuses, VerdictRefuses, VerdictSays};
 ghost use Rattle.pmp_audit.specs.PolicyRows.{AreWritten, IsToldOf};
 ghost use Rattle.pmp_audit.specs.PolicySweep.{rows_of};
@@ -19,27 +20,32 @@ mod search;
 mod steps;
 mod sweep;
 
-use crate::answer::write_answer;
 use crate::fault::ReportFault;
 use crate::moments::moments_of;
 use crate::policy_check::breach_list::breaches_of;
 use crate::policy_check::steps::Steps;
 use crate::policy_check::sweep::{Judged, judge, judge_rows};
 use pmp_text::{
-    Breach, EventLog, GrowingLog, Label, PolicyFields, PolicyRow, ReadScript, Sink, Verdict,
-    read_policy, read_script_in, write_verdict,
+    Breach, EventLog, Label, PolicyFields, PolicyRow, ReadScript, RowSink, Verdict, add_verdict,
+    read_policy, read_script_in,
 };
 use std::alloc::{AllocError, Global};
-use std::io::Write;
 pub use steps::Pace;
 
-/// Which breaches of a row are written.
+/// Which breaches of a row get rows.
 #[derive(Clone, Copy, Debug, PartialEq, Eq)]
 pub enum Breaches {
     /// The first one, by time and then by address.
     First,
     /// Each, in the state in which it begins: where the state before has no run of the same bytes that breaks the row.
     All,
+}
+
+/// When the rows of a policy are judged, and which breaches get rows.
+#[derive(Clone, Copy, Debug, PartialEq, Eq)]
+pub struct AskedVerdicts {
+    pub pace: Pace,
+    pub breaches: Breaches,
 }
 
 /// How many rows a policy has, and how many of them are broken, or unmet though they don't allow it.
@@ -52,75 +58,72 @@ pub struct PolicySummary {
     pub bare: Option<u64>,
 }
 
-/// Judges each row of the policy after the script's publications that it names, or after each of their events, and
-/// writes a row for each, numbered from 1: that it holds, or its first breach by time and then by address, or that its
-/// moments never come. With all breaches it writes a row for each of them.
+/// Judges each row of the policy after the script's publications that it names, or after each of their events, and adds
+/// a row for each, numbered from 1: that it holds, or its first breach by time and then by address, or that its moments
+/// never come. With all breaches it adds a row for each of them.
 ///
-/// The script's fault comes before any of the policy. The text is complete before its first byte is written, so every
-/// refusal but `Output` leaves the output untouched. There is one pass over the states: a row is checked again only if
-/// a byte of its range may have moved; otherwise it costs a comparison of two ranges per state.
+/// The script's fault comes before any of the policy. The log keeps the script's events; `Memory` means that there is
+/// no room for them there, or none for the rows. There is one pass over the states: a row is checked again only if a
+/// byte of its range may have moved; otherwise it costs a comparison of two ranges per state.
 #[inline(never)]
-pub fn check_policy<W: Write>(
+pub fn add_policy<L: EventLog, R: RowSink>(
     alloc: Global,
-    pace: Pace,
-    breaches: Breaches,
+    log: &mut L,
+    asked: AskedVerdicts,
     script: &[u8],
     policy: &[u8],
-    writer: &mut W,
+    out: &mut R,
 ) -> Result<PolicySummary, ReportFault>
     ensures ok { IfOk result
-        (IsWritten (PolicySays breaches pace script.now policy.now) (W.contents writer.old) (W.contents writer.new)) }
-    ensures err { IfErr result
-        (IsRefused (PolicySays breaches pace script.now policy.now) (W.contents writer.old) (W.contents writer.new)
-        (PolicyRefuses script.now policy.now)) }
+        (AreAdded R.Adds (PolicySays asked.breaches asked.pace script.now policy.now) out.old out.new) }
+    ensures err { IfErr result (Declines (PolicyRefuses script.now policy.now)) }
+    ensures kept { OnErr result (R.Adds [] out.old out.new) }
 {
-    let mut log = GrowingLog::new(alloc);
-    let script = read_script_in(&mut log, script)?;
-    check_rows(alloc, pace, breaches, &script, policy, writer)
+    let script = read_script_in(log, script)?;
+    check_rows(alloc, asked, &script, policy, out)
 }
 
 /// Judges the rows of the policy, whatever text the script was read from.
-fn check_rows<W: Write>(
+fn check_rows<R: RowSink>(
     alloc: Global,
-    pace: Pace,
-    breaches: Breaches,
+    asked: AskedVerdicts,
     script: &ReadScript,
     policy: &[u8],
-    writer: &mut W,
+    out: &mut R,
 ) -> Result<PolicySummary, ReportFault>
     ensures ok { (text : List ℕ) → script_meaning text ≡ Ok script.now → IfOk result
-        (IsWritten (PolicySays breaches pace text policy.now) (W.contents writer.old) (W.contents writer.new)) }
+        (AreAdded R.Adds (PolicySays asked.breaches asked.pace text policy.now) out.old out.new) }
     ensures err { (text : List ℕ) → script_meaning text ≡ Ok script.now → IfErr result
-        (IsRefused (PolicySays breaches pace text policy.now) (W.contents writer.old) (W.contents writer.new)
-        (PolicyRefuses text policy.now)) }
+        (Declines (PolicyRefuses text policy.now)) }
+    ensures kept { OnErr result (R.Adds [] out.old out.new) }
 {
     let policy = match read_policy(alloc, policy, &moments_of(script)) {
         Ok(policy) => policy,
         Err(fault) => return Err(ReportFault::of_policy(fault)),
     };
-    let steps = Steps { script, pace };
+    let steps = Steps {
+        script,
+        pace: asked.pace,
+    };
     let judged = judge_rows(alloc, &steps, &policy.rows)?;
-    let mut text = Vec::new(alloc);
-    let summary = write_verdicts(alloc, &mut text, &steps, breaches, &judged, &policy.labels)?;
-    write_answer(writer, &text, Ok(summary))
+    Ok(add_all(alloc, out, &steps, asked.breaches, &judged, &policy.labels)?)
 }
 
-/// Appends the verdict on one row, under this row number, and returns it. The log keeps the script's events; `Memory`
-/// means that there is no room for them there, or none for the text.
+/// Adds the verdict on one row, under this row number, and returns it. The log keeps the script's events; `Memory` means
+/// that there is no room for them there, or none for the row.
 ///
 /// The script's fault comes before any of the row.
-pub fn append_verdict<L: EventLog, S: Sink>(
+pub fn append_verdict<L: EventLog, R: RowSink>(
     log: &mut L,
     pace: Pace,
     script: &[u8],
     number: u64,
     fields: PolicyFields,
-    out: &mut S,
+    out: &mut R,
 ) -> Result<Verdict, ReportFault>
-    ensures ok { IfOk result
-        (IsAppended (VerdictSays pace script.now number fields) (S.text out.old) (S.text out.new)) }
+    ensures ok { IfOk result (AreAdded R.Adds (VerdictSays pace script.now number fields) out.old out.new) }
     ensures err { IfErr result (Declines (VerdictRefuses script.now number fields)) }
-    ensures kept { OnErr result (S.text out.new ≡ S.text out.old) }
+    ensures kept { OnErr result (R.Adds [] out.old out.new) }
 {
     let script = read_script_in(log, script)?;
     let row = match PolicyRow::new(script.batches(), fields) {
@@ -133,26 +136,49 @@ pub fn append_verdict<L: EventLog, S: Sink>(
     judge(&steps, &mut judged);
     let [one] = judged;
     let verdict = one.told();
-    write_verdict(out, number, verdict, None)?;
+    add_verdict(out, number, verdict, None)?;
     Ok(verdict)
 }
 
-/// Appends what is told of the rows, with the labels of the rows that have one.
-fn write_verdicts(
+/// Adds what is told of the rows, with the labels of the rows that have one, or nothing.
+fn add_all<R: RowSink>(
     alloc: Global,
-    out: &mut Vec<u8>,
+    out: &mut R,
     steps: &Steps<'_>,
     breaches: Breaches,
     judged: &[Judged],
     labels: &[Label],
 ) -> Result<PolicySummary, AllocError>
     requires { All (λ row. row.to ≤ length steps.now.script.now.batches) (rows_of judged.now) }
-    ensures { IfOk result (AreWritten (IsToldOf breaches steps.now.pace steps.now.script.now) judged.now
-        (map label_text labels.now) out.old.items out.new.items) }
+    ensures ok { IfOk result (AreWritten R.Adds (IsToldOf breaches steps.now.pace steps.now.script.now) judged.now
+        (map label_text labels.now) out.old out.new) }
+    ensures kept { OnErr result (R.Adds [] out.old out.new) }
+{
+    let before = out.position();
+    let summary = add_verdicts(alloc, out, steps, breaches, judged, labels);
+    if summary.is_err() {
+        out.go_back(before);
+    }
+    summary
+}
+
+/// Adds what is told of the rows, or of some.
+fn add_verdicts<R: RowSink>(
+    alloc: Global,
+    out: &mut R,
+    steps: &Steps<'_>,
+    breaches: Breaches,
+    judged: &[Judged],
+    labels: &[Label],
+) -> Result<PolicySummary, AllocError>
+    requires { All (λ row. row.to ≤ length steps.now.script.now.batches) (rows_of judged.now) }
+    ensures ok { IfOk result (AreWritten R.Adds (IsToldOf breaches steps.now.pace steps.now.script.now) judged.now
+        (map label_text labels.now) out.old out.new) }
+    ensures err { OnErr result (AddsSome R.Adds out.old out.new) }
 {
     let mut summary = PolicySummary::default();
     for one in judged {
-        write_told(alloc, out, steps, breaches, one, summary.rows, labels)?;
+        add_told(alloc, out, steps, breaches, one, summary.rows, labels)?;
         summary.rows += 1;
         summary.broken += u64::from(one.told().is_breach());
         summary.bare = summary.bare.or(one.row.is_bare.then_some(summary.rows));
@@ -167,10 +193,10 @@ fn label_at(labels: &[Label], index: u64) -> Option<&Label>
     labels.get(index as usize)
 }
 
-/// Appends what is told of the row at this index, from 0, with the label that it has there, if any.
-fn write_told(
+/// Adds what is told of the row at this index, from 0, with the label that it has there, if any.
+fn add_told<R: RowSink>(
     alloc: Global,
-    out: &mut Vec<u8>,
+    out: &mut R,
     steps: &Steps<'_>,
     breaches: Breaches,
     one: &Judged,
@@ -179,36 +205,37 @@ fn write_told(
 ) -> Result<(), AllocError>
     requires room { index + 1 < 2 ^ 64 }
     requires within { one.now.row.to ≤ length steps.now.script.now.batches }
-    ensures { OnOk result ((told : List Verdict) × IsToldOf breaches steps.now.pace steps.now.script.now one.now told
-        × (out.new.items ≡ out.old.items
-        ++ told_rows (index + 1) (slice_get (map label_text labels.now) index) told)) }
+    ensures ok { OnOk result ((told : List Verdict) × IsToldOf breaches steps.now.pace steps.now.script.now one.now told
+        × R.Adds (told_rows (index + 1) (slice_get (map label_text labels.now) index) told) out.old out.new) }
+    ensures err { OnErr result (AddsSome R.Adds out.old out.new) }
 {
     let label = label_at(labels, index);
     match (breaches, one.told()) {
         (Breaches::All, Verdict::Broken(_)) => {
             let all = breaches_of(alloc, steps, &one.row)?;
-            write_breaches(out, index + 1, &all, label)
+            add_breaches(out, index + 1, &all, label)
         }
-        (Breaches::All, Verdict::Holds) => write_verdict(out, index + 1, Verdict::Holds, label),
+        (Breaches::All, Verdict::Holds) => add_verdict(out, index + 1, Verdict::Holds, label),
         (Breaches::All, Verdict::Unmet(is_waived)) => {
-            write_verdict(out, index + 1, Verdict::Unmet(is_waived), label)
+            add_verdict(out, index + 1, Verdict::Unmet(is_waived), label)
         }
-        (Breaches::First, verdict) => write_verdict(out, index + 1, verdict, label),
+        (Breaches::First, verdict) => add_verdict(out, index + 1, verdict, label),
     }
 }
 
-/// Appends a row for each breach, under this row number.
-fn write_breaches(
-    out: &mut Vec<u8>,
+/// Adds a row for each breach, under this row number.
+fn add_breaches<R: RowSink>(
+    out: &mut R,
     number: u64,
     all: &[Breach],
     label: Option<&Label>,
 ) -> Result<(), AllocError>
-    ensures { OnOk result (out.new.items ≡ out.old.items
-        ++ told_rows number (option_map label_text (option_copied label.entry)) (map Broken all.now)) }
+    ensures ok { OnOk result (R.Adds
+        (told_rows number (option_map label_text (option_copied label.entry)) (map Broken all.now)) out.old out.new) }
+    ensures err { OnErr result (AddsSome R.Adds out.old out.new) }
 {
     for breach in all {
-        write_verdict(out, number, Verdict::Broken(*breach), label)?;
+        add_verdict(out, number, Verdict::Broken(*breach), label)?;
     }
     Ok(())
 }

@@ -3,7 +3,7 @@
 ghost use Rattle.std.specs.Prelude.{◌≡◌, ◌<◌, ◌+◌, IfErr, IfOk, OnErr, is_some};
 ghost use Rattle.pmp_text.specs.declared.trace.reader.TheConstants.{MAX_TRACE};
 ghost use Rattle.pmp_lint.specs.EndState.{end_of};
-ghost use Rattle.pmp_audit.specs.Answers.{Declines, IsAppended, IsRefused, IsWritten};
+ghost use Rattle.pmp_audit.specs.Answers.{Declines, IsAppended};
 ghost use Rattle.pmp_audit.specs.Growing.{HasGrown};
 ghost use Rattle.pmp_audit.specs.PolicyDraft.{AreNeverRows, DraftRefuses, DraftSays, IsDraftText, IsModeText};
 ghost use Rattle.pmp_audit.specs.PolicyDraft.{last_moment, last_word};
@@ -11,46 +11,24 @@ ghost use Rattle.pmp_audit.specs.PolicyDraft.{last_moment, last_word};
 mod closed_range;
 mod never_row;
 
-use crate::answer::write_answer;
 use crate::fault::ReportFault;
 use crate::policy_draft::closed_range::closed_range_from;
 use crate::policy_draft::never_row::{LastMoment, NeverRow};
 use crate::replay::file_of;
 use pmp_core::{Kind, Mode, RegFile};
 use pmp_text::laws::law_script_size;
-use pmp_text::{EventLog, GrowingLog, MAX_TRACE, ReadScript, Sink, append_line, read_script_in};
-use std::alloc::{AllocError, Global};
-use std::io::Write;
+use pmp_text::{EventLog, MAX_TRACE, ReadScript, Sink, append_line, read_script_in};
+use std::alloc::AllocError;
 
 /// The first line, which names the fields.
 const HEADER: &[u8] = b"from,to,modes,kind,first,last,demand\n";
 
-/// Writes a policy of all that is closed after the script's last publication: for M-mode, and for S-mode and U-mode,
+/// Appends a policy of all that is closed after the script's last publication: for M-mode, and for S-mode and U-mode,
 /// and for each kind of access, a row for each of the longest ranges of bytes that are closed to it, by address. Each
-/// row holds for this script. A person takes out what isn't meant to stay so.
-///
-/// The text is complete before its first byte is written, so every refusal but `Output` leaves the output untouched.
-#[tactic(auto, using(crate::proofs::WrittenAnswers::answer_rules))]
+/// row holds for this script. A person takes out what isn't meant to stay so. The log keeps the script's events;
+/// `Memory` means that there is no room for them there, or none for the text. A text longer than a policy may be, which
+/// no register file has, counts as one without room.
 #[inline(never)]
-pub fn policy_from<W: Write>(
-    alloc: Global,
-    script: &[u8],
-    writer: &mut W,
-) -> Result<(), ReportFault>
-    ensures ok { IfOk result
-        (IsWritten (DraftSays script.now) (W.contents writer.old) (W.contents writer.new)) }
-    ensures err { IfErr result
-        (IsRefused (DraftSays script.now) (W.contents writer.old) (W.contents writer.new)
-        (DraftRefuses script.now)) }
-{
-    let mut text = Vec::new(alloc);
-    let made = append_policy_from(&mut GrowingLog::new(alloc), script, &mut text);
-    write_answer(writer, &text, made)
-}
-
-/// Appends the text that `policy_from` writes. The log keeps the script's events; `Memory` means that there is no room
-/// for them there, or none for the text. A text longer than a policy may be, which no register file has, counts as one
-/// without room.
 pub fn append_policy_from<L: EventLog, S: Sink>(
     log: &mut L,
     script: &[u8],

@@ -1,105 +1,89 @@
 //! Why an access is decided as it is after some of a script's publications, and the findings in a script.
 
-ghost use Rattle.std.specs.Prelude.{◌≡◌, IfErr, IfOk, OnErr};
-ghost use Rattle.pmp_audit.specs.Answers.{Declines, IsAppended, IsRefused, IsWritten};
+ghost use Rattle.std.specs.Prelude.{[], IfErr, IfOk, List, OnErr, OnOk};
+ghost use Rattle.pmp_lint.specs.Why.{AreAnswerRuns};
+ghost use Rattle.pmp_lint.specs.declared.answer_run.AnswerRun.{AnswerRun};
+ghost use Rattle.pmp_text.specs.Cells.{AddsSome};
+ghost use Rattle.pmp_audit.specs.Answers.{AreAdded, Declines};
 ghost use Rattle.pmp_audit.specs.AskedFile.{FileRefuses};
-ghost use Rattle.pmp_audit.specs.Reasons.{FindingsSay, ReasonsSay};
+ghost use Rattle.pmp_audit.specs.Reasons.{FindingsSay, ReasonsSay, reasons_rows};
 ghost use Rattle.pmp_audit.specs.WriteList.{WritesRefuse};
 
-use crate::answer::write_answer;
 use crate::asked_count::asked_count;
 use crate::fault::ReportFault;
 use pmp_core::{Access, Decision};
-use pmp_lint::{append_history, append_lint, append_why, why};
-use pmp_text::{EventLog, GrowingLog, Sink, When, read_script_in};
-use std::alloc::Global;
-use std::io::Write;
+use pmp_lint::{Because, add_history, add_lint, add_why, why};
+use pmp_text::{EventLog, ReadScript, RowSink, When, read_script_in};
+use std::alloc::AllocError;
 
 /// Decides the access after the script's publications done at the given moment, or after all of them if that is none,
-/// and writes why, and after that row the report rows of its decisions at all moments.
-///
-/// The rows are complete before their first byte is written, so every refusal but `Output` leaves the output untouched.
-#[tactic(auto, using(crate::proofs::WrittenAnswers::answer_rules))]
-pub fn explain<W: Write>(
-    alloc: Global,
-    script: &[u8],
-    access: &Access,
-    after: Option<When>,
-    writer: &mut W,
-) -> Result<Decision, ReportFault>
-    ensures ok { IfOk result
-        (IsWritten (ReasonsSay script.now access.now after) (W.contents writer.old) (W.contents writer.new)) }
-    ensures err { IfErr result
-        (IsRefused (ReasonsSay script.now access.now after) (W.contents writer.old) (W.contents writer.new)
-        (FileRefuses script.now after)) }
-{
-    let mut text = Vec::new(alloc);
-    let mut log = GrowingLog::new(alloc);
-    let told = append_reasons(&mut log, script, access, after, &mut text);
-    write_answer(writer, &text, told)
-}
-
-/// Appends the rows that `explain` writes. The log keeps the script's events; `Memory` means that there is no room for
-/// them there, or none for the rows.
-pub fn append_reasons<L: EventLog, S: Sink>(
+/// and adds a row that says why, and after it the rows of its decisions at all moments. The log keeps the script's
+/// events; `Memory` means that there is no room for them there, or none for the rows.
+#[inline(never)]
+pub fn add_reasons<L: EventLog, R: RowSink>(
     log: &mut L,
     script: &[u8],
     access: &Access,
     after: Option<When>,
-    out: &mut S,
+    out: &mut R,
 ) -> Result<Decision, ReportFault>
-    ensures ok { IfOk result
-        (IsAppended (ReasonsSay script.now access.now after) (S.text out.old) (S.text out.new)) }
+    ensures ok { IfOk result (AreAdded R.Adds (ReasonsSay script.now access.now after) out.old out.new) }
     ensures err { IfErr result (Declines (FileRefuses script.now after)) }
-    ensures kept { OnErr result (S.text out.new ≡ S.text out.old) }
+    ensures kept { OnErr result (R.Adds [] out.old out.new) }
 {
     let script = read_script_in(log, script)?;
     let done = asked_count(&script, after)?;
-    let before = out.position();
     let reason = why(&script, done, access);
-    append_why(out, access, &reason)?;
-    let written = append_history(out, &script, access);
-    if written.is_err() {
-        out.go_back(before);
-    }
-    written?;
+    add_rows(out, &script, access, &reason)?;
     Ok(reason.decision)
 }
 
-/// Writes a row for each finding of the script that isn't accepted, lint by lint, and returns their number.
-///
-/// The rows are complete before their first byte is written, so every refusal but `Output` leaves the output untouched.
-#[tactic(auto, using(crate::proofs::WrittenAnswers::answer_rules))]
-pub fn lint<W: Write>(
-    alloc: Global,
-    script: &[u8],
-    accepted: &[u8],
-    writer: &mut W,
-) -> Result<usize, ReportFault>
-    ensures ok { IfOk result
-        (IsWritten (FindingsSay script.now accepted.now) (W.contents writer.old) (W.contents writer.new)) }
-    ensures err { IfErr result
-        (IsRefused (FindingsSay script.now accepted.now) (W.contents writer.old) (W.contents writer.new)
-        (WritesRefuse script.now)) }
+/// Adds the row of a reason, and those of the access's decisions at all moments, or nothing.
+fn add_rows<R: RowSink>(
+    out: &mut R,
+    script: &ReadScript<'_>,
+    access: &Access,
+    reason: &Because,
+) -> Result<(), AllocError>
+    ensures ok { OnOk result ((runs : List AnswerRun) × AreAnswerRuns script.now access.now runs
+        × R.Adds (reasons_rows access.now reason.now runs) out.old out.new) }
+    ensures kept { OnErr result (R.Adds [] out.old out.new) }
 {
-    let mut text = Vec::new(alloc);
-    let mut log = GrowingLog::new(alloc);
-    let told = append_findings(&mut log, script, accepted, &mut text);
-    write_answer(writer, &text, told)
+    let before = out.position();
+    let added = add_all(out, script, access, reason);
+    if added.is_err() {
+        out.go_back(before);
+    }
+    added
 }
 
-/// Appends the rows that `lint` writes. The log keeps the script's events; `Memory` means that there is no room for
-/// them there, or none for the rows.
-pub fn append_findings<L: EventLog, S: Sink>(
+/// Adds these rows, or some of them.
+fn add_all<R: RowSink>(
+    out: &mut R,
+    script: &ReadScript<'_>,
+    access: &Access,
+    reason: &Because,
+) -> Result<(), AllocError>
+    ensures ok { OnOk result ((runs : List AnswerRun) × AreAnswerRuns script.now access.now runs
+        × R.Adds (reasons_rows access.now reason.now runs) out.old out.new) }
+    ensures err { OnErr result (AddsSome R.Adds out.old out.new) }
+{
+    add_why(out, access, reason)?;
+    add_history(out, script, access)
+}
+
+/// Adds a row for each finding of the script that isn't accepted, lint by lint, and returns their number. The log keeps
+/// the script's events; `Memory` means that there is no room for them there, or none for the rows.
+#[inline(never)]
+pub fn add_findings<L: EventLog, R: RowSink>(
     log: &mut L,
     script: &[u8],
     accepted: &[u8],
-    out: &mut S,
+    out: &mut R,
 ) -> Result<usize, ReportFault>
-    ensures ok { IfOk result
-        (IsAppended (FindingsSay script.now accepted.now) (S.text out.old) (S.text out.new)) }
+    ensures ok { IfOk result (AreAdded R.Adds (FindingsSay script.now accepted.now) out.old out.new) }
     ensures err { IfErr result (Declines (WritesRefuse script.now)) }
-    ensures kept { OnErr result (S.text out.new ≡ S.text out.old) }
+    ensures kept { OnErr result (R.Adds [] out.old out.new) }
 {
-    Ok(append_lint(log, script, accepted, out)?)
+    Ok(add_lint(log, script, accepted, out)?)
 }

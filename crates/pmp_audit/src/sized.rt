@@ -5,24 +5,27 @@ ghost use Rattle.pmp_share.specs.declared.opening.TheConstants.{CHECKERS};
 ghost use Rattle.pmp_text.specs.SizedScripts.{unsized_fault};
 ghost use Rattle.pmp_text.specs.declared.script.sized.ScriptFault.{ScriptFault};
 ghost use Rattle.pmp_audit.specs.AccessCheck.{CheckSays};
+ghost use Rattle.pmp_audit.specs.Answers.{InCsv, IsRefused, IsWritten};
 ghost use Rattle.pmp_audit.specs.AskedFile.{FileRefuses};
 ghost use Rattle.pmp_audit.specs.SharedAudit.{SharedAuditRefuses};
 ghost use Rattle.pmp_audit.specs.SizedAnswers.{IsRefusedSized, IsSized, audit_fault, counts_of, numbered_after};
 ghost use Rattle.pmp_audit.specs.SizedAnswers.{AreCounted};
 ghost use Rattle.pmp_audit.specs.TraceAudit.{AuditRefuses, AuditSays};
-ghost use Rattle.pmp_audit.specs.View.{ViewSays};
+ghost use Rattle.pmp_audit.specs.View.{ListingSays, ViewSays};
 ghost use Rattle.pmp_audit.specs.declared.sized.AuditFault.TheVariants as sized;
-ghost use Rattle.pmp_audit.specs.declared.view.View.TheVariants.{Registers, Runs};
+ghost use Rattle.pmp_audit.specs.declared.view.Listing.TheVariants.{Runs};
+ghost use Rattle.pmp_audit.specs.declared.view.View.TheVariants.{Registers};
 
-use crate::access_check::check_after;
+use crate::access_check::add_check;
+use crate::answer::write_answer;
 use crate::fault::ReportFault;
 use crate::gate::Gate;
 use crate::shared_audit::audit_by_workers;
 use crate::trace_audit::{AuditSummary, audit_whole};
-use crate::view::{View, show};
+use crate::view::{AskedView, Listing, View, add_listing, append_view};
 use pmp_core::{Access, Decision};
 use pmp_share::{Moved, ShareFault};
-use pmp_text::{ScriptFault, TraceFault, When, unsized_fault};
+use pmp_text::{GrowingLog, ScriptFault, TraceFault, When, unsized_fault};
 use std::alloc::Global;
 use std::io::Write;
 use std::sync::Wait;
@@ -110,7 +113,7 @@ fn want_sized(script: &[u8]) -> Result<(), AuditFault>
 /// Decides the access after all publications of the script, and writes its report row, with the number 1.
 ///
 /// The row is complete before its first byte is written, so every refusal but `Output` leaves the output untouched.
-/// [`check_after`](crate::check_after) does so for a script of any version, and at any moment.
+/// [`add_check`](crate::add_check) does so for a script of any version, and at any moment.
 #[inline(never)]
 pub fn check<W: Write>(
     alloc: Global,
@@ -118,13 +121,30 @@ pub fn check<W: Write>(
     access: &Access,
     writer: &mut W,
 ) -> Result<Decision, AuditFault>
-    ensures ok { IfOk result (IsSized (CheckSays script.now access.now None) script.now
+    ensures ok { IfOk result (IsSized (InCsv (CheckSays script.now access.now None)) script.now
         (W.contents writer.old) (W.contents writer.new)) }
-    ensures err { IfErr result (IsRefusedSized (CheckSays script.now access.now None) script.now
+    ensures err { IfErr result (IsRefusedSized (InCsv (CheckSays script.now access.now None)) script.now
         (W.contents writer.old) (W.contents writer.new) (FileRefuses script.now None)) }
 {
     want_sized(script)?;
-    Ok(check_after(alloc, script, access, None, writer)?)
+    Ok(check_any(alloc, script, access, writer)?)
+}
+
+/// Decides the access after all publications of a script of any version, and writes its row.
+fn check_any<W: Write>(
+    alloc: Global,
+    script: &[u8],
+    access: &Access,
+    writer: &mut W,
+) -> Result<Decision, ReportFault>
+    ensures ok { IfOk result (IsWritten (InCsv (CheckSays script.now access.now None))
+        (W.contents writer.old) (W.contents writer.new)) }
+    ensures err { IfErr result (IsRefused (InCsv (CheckSays script.now access.now None))
+        (W.contents writer.old) (W.contents writer.new) (FileRefuses script.now None)) }
+{
+    let mut text = Vec::new(alloc);
+    let made = add_check(&mut GrowingLog::new(alloc), script, access, None, &mut text);
+    write_answer(writer, &text, made)
 }
 
 /// Decides each row of the trace in the register file after the publications that it asks for, and writes a report row
@@ -177,7 +197,7 @@ pub fn audit_shared<R: Threads + Wait + Sync, G: Gate + Sync, W: Write>(
 }
 
 /// Writes the runs after so many publications, or after all of them, a line for each: which bytes each entry owns, and
-/// what it lets each mode do there. [`show`] does so for a script of any version, and at any moment.
+/// what it lets each mode do there. [`add_listing`] lists them for a script of any version, and at any moment.
 #[inline(never)]
 pub fn map_of<W: Write>(
     alloc: Global,
@@ -185,17 +205,63 @@ pub fn map_of<W: Write>(
     after: Option<u64>,
     writer: &mut W,
 ) -> Result<(), AuditFault>
-    ensures ok { IfOk result (IsSized (ViewSays Runs script.now (numbered_after after)) script.now
+    ensures ok { IfOk result (IsSized (InCsv (ListingSays Runs script.now (numbered_after after))) script.now
         (W.contents writer.old) (W.contents writer.new)) }
-    ensures err { IfErr result (IsRefusedSized (ViewSays Runs script.now (numbered_after after)) script.now
+    ensures err { IfErr result (IsRefusedSized (InCsv (ListingSays Runs script.now (numbered_after after))) script.now
         (W.contents writer.old) (W.contents writer.new) (FileRefuses script.now (numbered_after after))) }
 {
     want_sized(script)?;
-    Ok(show(alloc, View::Runs, script, after.map(When::Number), writer)?)
+    Ok(list_runs(alloc, script, after.map(When::Number), writer)?)
 }
 
-/// Writes the registers after so many publications, or after all of them, a line for each. [`show`] does so for a
-/// script of any version, and at any moment.
+/// Writes the runs of a script of any version.
+fn list_runs<W: Write>(
+    alloc: Global,
+    script: &[u8],
+    after: Option<When>,
+    writer: &mut W,
+) -> Result<(), ReportFault>
+    ensures ok { IfOk result (IsWritten (InCsv (ListingSays Runs script.now after))
+        (W.contents writer.old) (W.contents writer.new)) }
+    ensures err { IfErr result (IsRefused (InCsv (ListingSays Runs script.now after))
+        (W.contents writer.old) (W.contents writer.new) (FileRefuses script.now after)) }
+{
+    let mut text = Vec::new(alloc);
+    let made = add_listing(
+        &mut GrowingLog::new(alloc),
+        Listing::Runs,
+        script,
+        after,
+        &mut text,
+    );
+    write_answer(writer, &text, made)
+}
+
+/// Writes the registers of a script of any version.
+#[tactic(auto, using(crate::proofs::WrittenAnswers::answer_rules))]
+fn show_registers<W: Write>(
+    alloc: Global,
+    script: &[u8],
+    after: Option<When>,
+    writer: &mut W,
+) -> Result<(), ReportFault>
+    ensures ok { IfOk result (IsWritten (ViewSays Registers None script.now after)
+        (W.contents writer.old) (W.contents writer.new)) }
+    ensures err { IfErr result (IsRefused (ViewSays Registers None script.now after)
+        (W.contents writer.old) (W.contents writer.new) (FileRefuses script.now after)) }
+{
+    let mut text = Vec::new(alloc);
+    let asked = AskedView {
+        view: View::Registers,
+        after,
+        names: None,
+    };
+    let made = append_view(&mut GrowingLog::new(alloc), asked, script, &mut text);
+    write_answer(writer, &text, made)
+}
+
+/// Writes the registers after so many publications, or after all of them, a line for each. [`append_view`] does so for
+/// a script of any version, and at any moment.
 #[inline(never)]
 pub fn dump<W: Write>(
     alloc: Global,
@@ -203,17 +269,11 @@ pub fn dump<W: Write>(
     after: Option<u64>,
     writer: &mut W,
 ) -> Result<(), AuditFault>
-    ensures ok { IfOk result (IsSized (ViewSays Registers script.now (numbered_after after)) script.now
+    ensures ok { IfOk result (IsSized (ViewSays Registers None script.now (numbered_after after)) script.now
         (W.contents writer.old) (W.contents writer.new)) }
-    ensures err { IfErr result (IsRefusedSized (ViewSays Registers script.now (numbered_after after)) script.now
+    ensures err { IfErr result (IsRefusedSized (ViewSays Registers None script.now (numbered_after after)) script.now
         (W.contents writer.old) (W.contents writer.new) (FileRefuses script.now (numbered_after after))) }
 {
     want_sized(script)?;
-    Ok(show(
-        alloc,
-        View::Registers,
-        script,
-        after.map(When::Number),
-        writer,
-    )?)
+    Ok(show_registers(alloc, script, after.map(When::Number), writer)?)
 }

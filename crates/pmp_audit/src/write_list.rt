@@ -1,23 +1,21 @@
 //! The effect of each event of a script on a register.
 
-ghost use Rattle.std.specs.Prelude.{◌≡◌, ◌+◌, ◌^◌, ◌<◌, ◌≤◌, IfOk, IfErr, OnErr, ◌++◌, length};
+ghost use Rattle.std.specs.Prelude.{◌≡◌, ◌+◌, ◌^◌, ◌<◌, ◌≤◌, IfOk, IfErr, OnErr, [], length};
 ghost use Rattle.pmp_core.specs.RegisterWrite.{step};
+ghost use Rattle.pmp_text.specs.Cells.{AddsSome};
 ghost use Rattle.pmp_text.specs.Sizes.{IsInLimits};
-ghost use Rattle.pmp_audit.specs.Answers.{Declines, IsAppended, IsWritten, IsRefused};
-ghost use Rattle.pmp_audit.specs.Growing.{HasGrown};
+ghost use Rattle.pmp_audit.specs.Answers.{AreAdded, Declines};
 ghost use Rattle.pmp_audit.specs.EventRows.{AreWritten};
-ghost use Rattle.pmp_audit.specs.WriteList.{all_rows, placed, placed_events, rows_text, has_fault, event_summary};
+ghost use Rattle.pmp_audit.specs.WriteList.{all_rows, placed, placed_events, event_rows, has_fault, event_summary};
 ghost use Rattle.pmp_audit.specs.WriteList.{WritesSay, WritesRefuse, write_summary};
 
 use crate::accepted_reason::has_other_reason;
-use crate::answer::write_answer;
-use crate::expectations::write_expectations;
+use crate::expectations::add_expectations;
 use crate::fault::ReportFault;
 use pmp_core::{Event, RegFile};
 use pmp_text::laws::law_script_size;
-use pmp_text::{EventLog, EventPlace, GrowingLog, ReadScript, Sink, read_script_in, write_effect};
-use std::alloc::{AllocError, Global};
-use std::io::Write;
+use pmp_text::{EventLog, EventPlace, ReadScript, RowSink, add_effect, read_script_in};
+use std::alloc::AllocError;
 
 /// How many events a script has, how many of them are writes that the register doesn't read back as written, how often
 /// it expects something of a register, and how often that differs. What is accepted counts neither as such a write nor
@@ -30,66 +28,45 @@ pub struct WriteSummary {
     pub differing: u64,
 }
 
-/// Writes a row for each event of the script, in order: what it wrote, what the register read before and after, and why
-/// that isn't what was written. After these it writes a row for each expectation: what the register reads there, and
+/// Adds a row for each event of the script, in order: what it wrote, what the register read before and after, and why
+/// that isn't what was written. After these it adds a row for each expectation: what the register reads there, and
 /// whether that is as expected. `accepted` has reasons that don't count, each as `REASON` for every line or as
-/// `REASON:LINE` for this one, which commas separate; empty, it accepts none.
-///
-/// The text is complete before its first byte is written, so every refusal but `Output` leaves the output untouched.
-#[tactic(auto, using(crate::proofs::WrittenAnswers::answer_rules))]
+/// `REASON:LINE` for this one, which commas separate; empty, it accepts none. The log keeps the script's events;
+/// `Memory` means that there is no room for them there, or none for the rows.
 #[inline(never)]
-pub fn writes<W: Write>(
-    alloc: Global,
-    script: &[u8],
-    accepted: &[u8],
-    writer: &mut W,
-) -> Result<WriteSummary, ReportFault>
-    ensures ok { IfOk result
-        (IsWritten (WritesSay accepted.now script.now) (W.contents writer.old) (W.contents writer.new)) }
-    ensures err { IfErr result
-        (IsRefused (WritesSay accepted.now script.now) (W.contents writer.old) (W.contents writer.new)
-        (WritesRefuse script.now)) }
-{
-    let mut text = Vec::new(alloc);
-    let summary = append_writes(&mut GrowingLog::new(alloc), script, accepted, &mut text);
-    write_answer(writer, &text, summary)
-}
-
-/// Appends the text that `writes` writes. The log keeps the script's events; `Memory` means that there is no room for
-/// them there, or none for the text.
-pub fn append_writes<L: EventLog, S: Sink>(
+pub fn add_writes<L: EventLog, R: RowSink>(
     log: &mut L,
     script: &[u8],
     accepted: &[u8],
-    out: &mut S,
+    out: &mut R,
 ) -> Result<WriteSummary, ReportFault>
-    ensures ok { IfOk result (IsAppended (WritesSay accepted.now script.now) (S.text out.old) (S.text out.new)) }
+    ensures ok { IfOk result (AreAdded R.Adds (WritesSay accepted.now script.now) out.old out.new) }
     ensures err { IfErr result (Declines (WritesRefuse script.now)) }
-    ensures kept { OnErr result (S.text out.new ≡ S.text out.old) }
+    ensures kept { OnErr result (R.Adds [] out.old out.new) }
 {
     let script = read_script_in(log, script)?;
     law_script_size();
     let before = out.position();
-    let summary = write_script(out, &script, accepted);
+    let summary = add_all(out, &script, accepted);
     if summary.is_err() {
         out.go_back(before);
     }
     Ok(summary?)
 }
 
-/// Appends the rows of a script's events, and after them those of its expectations.
-fn write_script<S: Sink>(
-    out: &mut S,
+/// Adds the rows of a script's events, and after them those of its expectations.
+fn add_all<R: RowSink>(
+    out: &mut R,
     script: &ReadScript,
     accepted: &[u8],
 ) -> Result<WriteSummary, AllocError>
     requires { IsInLimits script.now.batches }
-    ensures rows { IfOk result (λ _. S.text out.new ≡ S.text out.old ++ all_rows script.now) }
+    ensures rows { IfOk result (λ _. R.Adds (all_rows script.now) out.old out.new) }
     ensures counted { IfOk result (λ summary. summary ≡ write_summary accepted.now script.now) }
-    ensures err { OnErr result (HasGrown (S.text out.old) (S.text out.new)) }
+    ensures err { OnErr result (AddsSome R.Adds out.old out.new) }
 {
-    let EventSummary { events, not_stored } = write_events(out, script, accepted)?;
-    let differing = write_expectations(out, script, accepted)?;
+    let EventSummary { events, not_stored } = add_events(out, script, accepted)?;
+    let differing = add_expectations(out, script, accepted)?;
     Ok(WriteSummary {
         events,
         not_stored,
@@ -106,17 +83,16 @@ struct EventSummary {
     not_stored: u64,
 }
 
-fn write_events<S: Sink>(
-    out: &mut S,
+fn add_events<R: RowSink>(
+    out: &mut R,
     script: &ReadScript,
     accepted: &[u8],
 ) -> Result<EventSummary, AllocError>
     requires { IsInLimits script.now.batches }
-    ensures rows { IfOk result (λ _. S.text out.new ≡ S.text out.old
-        ++ rows_text script.now.start (placed_events script.now)) }
+    ensures rows { IfOk result (λ _. R.Adds (event_rows script.now.start (placed_events script.now)) out.old out.new) }
     ensures counted { IfOk result
         (λ summary. summary ≡ event_summary accepted.now script.now.start (placed_events script.now)) }
-    ensures err { OnErr result (HasGrown (S.text out.old) (S.text out.new)) }
+    ensures err { OnErr result (AddsSome R.Adds out.old out.new) }
 {
     let mut file = script.start();
     let mut summary = EventSummary::default();
@@ -126,7 +102,7 @@ fn write_events<S: Sink>(
             lines: script.lines(index),
             events: script.batch(index),
         };
-        summary = write_publication(out, &mut file, summary, publication, accepted)?;
+        summary = add_publication(out, &mut file, summary, publication, accepted)?;
     }
     Ok(summary)
 }
@@ -139,9 +115,9 @@ struct Publication<'a> {
     events: &'a [Event],
 }
 
-/// Appends the rows of a publication's events, and executes them. What comes before them is already counted.
-fn write_publication<S: Sink>(
-    out: &mut S,
+/// Adds the rows of a publication's events, and executes them. What comes before them is already counted.
+fn add_publication<R: RowSink>(
+    out: &mut R,
     file: &mut RegFile,
     before: EventSummary,
     publication: Publication<'_>,
@@ -149,12 +125,12 @@ fn write_publication<S: Sink>(
 ) -> Result<EventSummary, AllocError>
     requires room { before.events + length publication.events.now < 2 ^ 64 }
     requires within { before.not_stored ≤ before.events }
-    ensures written { IfOk result (λ after. AreWritten accepted.now
-        (record { text = S.text out.old; file = file.old; summary = before })
-        (record { text = S.text out.new; file = file.new; summary = after })
+    ensures written { IfOk result (λ after. AreWritten R.Adds accepted.now
+        (record { rows = out.old; file = file.old; summary = before })
+        (record { rows = out.new; file = file.new; summary = after })
         (placed publication.entry.number publication.entry.lines.now publication.entry.events.now)) }
     ensures within { IfOk result (λ after. after.not_stored ≤ after.events) }
-    ensures err { OnErr result (HasGrown (S.text out.old) (S.text out.new)) }
+    ensures err { OnErr result (AddsSome R.Adds out.old out.new) }
 {
     let mut summary = before;
     for (line, event) in publication.lines.iter().zip(publication.events) {
@@ -163,7 +139,7 @@ fn write_publication<S: Sink>(
             publication: publication.number,
             line: *line,
         };
-        let after = write_effect(out, &place, file, *event)?;
+        let after = add_effect(out, &place, file, *event)?;
         let is_fault = has_fault(accepted, *line, file, &after, *event);
         summary = EventSummary {
             events: place.number,

@@ -1,4 +1,2 @@
-pub mod Fields
 pub mod ColumnLists
-pub mod MemberTexts
 pub mod Joining

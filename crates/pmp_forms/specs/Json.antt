@@ -1,38 +1,37 @@
 -- Rows as JSON.
-use Rattle.std.specs.Prelude.{ℕ, List, [], ◌∷◌, ◌++◌, map, codes, length, Option, Some, None, if◌then◌else◌}
+use Rattle.std.specs.Prelude.{ℕ, List, [], ◌∷◌, ◌++◌, codes, Option, Some, None, if◌then◌else◌}
 use Rattle.std.specs.List.{flat_map}
 use Rattle.std.specs.Str.Lossy.{utf8_lossy}
 use Rattle.serde_json.specs.Data.{Data, null, number, unsigned, string, object, Members, no_members, member}
 use Rattle.serde_json.specs.Written.{compact_text}
-use Rattle.pmp_text.specs.Numbers.{numeral}
-use Rattle.pmp_text.specs.Tables.{records_of}
-use Rattle.pmp_forms.specs.declared.columns.Table.{Table}
-use Rattle.pmp_forms.specs.Columns.{ColumnSaid, columns_of}
+use Rattle.pmp_text.specs.Cells.{CellValue, RowValue, shown_text}
+use Rattle.pmp_text.specs.Columns.{ColumnValue, column_name, is_number}
+use Rattle.pmp_forms.specs.declared.table.Table.{Table}
+use Rattle.pmp_forms.specs.Tables.{number_in, whole}
 
 -- a number, if there is one
 abbrev pub number_or_null : Option ℕ → Data
 number_or_null (Some n) = number (unsigned n)
 number_or_null None = null
 
--- what a field says in a column
-abbrev pub datum : ColumnSaid → (field : List ℕ) → Data
-datum column field = if column.is_number then number_or_null (numeral 10 20 field) else string (utf8_lossy field)
+-- what a cell says in a column
+abbrev pub datum : ColumnValue → CellValue → Data
+datum column cell =
+    if is_number column then number_or_null (number_in cell) else string (utf8_lossy (shown_text cell))
 
--- the fields under the names of their columns
-abbrev pub members : List ColumnSaid → (fields : List (List ℕ)) → Members
-members (column ∷ columns) (field ∷ fields) = member column.name (datum column field) (members columns fields)
+-- the cells under the names of their columns
+abbrev pub members : List ColumnValue → List CellValue → Members
+members (column ∷ columns) (cell ∷ cells) = member (column_name column) (datum column cell) (members columns cells)
 members _ _ = no_members
 
-abbrev pub object_text : List ColumnSaid → (fields : List (List ℕ)) → List ℕ
-object_text columns fields = compact_text (object (members columns fields))
+abbrev pub row_object : Table → RowValue → List ℕ
+row_object table row = compact_text (object (members (whole table row.kind) row.cells))
 
-abbrev pub row_object : Table → (fields : List (List ℕ)) → List ℕ
-row_object table fields = object_text (columns_of table (length fields)) fields
+abbrev pub object_after : Table → RowValue → List ℕ
+object_after table row = codes ",\n" ++ row_object table row
 
--- an array of such texts, each on a line of its own
-abbrev pub array_text : List (List ℕ) → List ℕ
-array_text [] = codes "[]\n"
-array_text (item ∷ items) = codes "[\n" ++ (item ++ (flat_map (λ text. codes ",\n" ++ text) items ++ codes "\n]\n"))
-
-abbrev pub json_text : Table → (rows : List ℕ) → List ℕ
-json_text table rows = array_text (map (row_object table) (records_of rows))
+-- an array of the rows' objects, each on a line of its own
+abbrev pub json_text : Table → List RowValue → List ℕ
+json_text table [] = codes "[]\n"
+json_text table (row ∷ rows) =
+    codes "[\n" ++ (row_object table row ++ (flat_map (object_after table) rows ++ codes "\n]\n"))

@@ -3,6 +3,7 @@ use Rattle.std.specs.Prelude.{ℕ, List, [], ◌∷◌, ◌++◌, codes, decimal
 use Rattle.std.specs.Prelude.{None, nat_lt, if◌then◌else◌}
 use Rattle.std.specs.List.{count_by, flat_map}
 use Rattle.std.specs.Str.Lossy.{utf8_lossy}
+use Rattle.pmp_text.specs.Cells.{RowValue}
 use Rattle.pmp_forms.specs.declared.cases.Check.{Check}
 use Rattle.pmp_forms.specs.declared.cases.Check.TheVariants.{Lint, Policy}
 use Rattle.pmp_forms.specs.declared.cases.Outcome.{Outcome}
@@ -45,9 +46,9 @@ case_text case = opening case ++ ending case
 abbrev pub no_findings : (script : List ℕ) → CaseSaid
 no_findings script = record {
   outcome = Passed;
-  rule = [];
+  finding = None;
+  number = None;
   path = script;
-  line = None;
   title = codes "no findings";
   message = [];
 }
@@ -83,5 +84,5 @@ abbrev pub suite_text : Check → List CaseSaid → List ℕ
 suite_text check cases = joined (codes "<?xml version=\"1.0\" encoding=\"UTF-8\"?>\n<testsuites>\n"
     ∷ tag_text check cases ∷ flat_map case_text cases ∷ codes "</testsuite>\n</testsuites>\n" ∷ [])
 
-abbrev pub junit_text : SuiteSaid → (rows : List ℕ) → List ℕ
+abbrev pub junit_text : SuiteSaid → List RowValue → List ℕ
 junit_text suite rows = suite_text suite.check (shown suite (cases_of suite rows))

@@ -1,9 +1,11 @@
 -- Rows as tables of Markdown.
-use Rattle.std.specs.Prelude.{ℕ, List, [], ◌∷◌, ◌++◌, map, codes, length, Bool, ◌||◌, ◌==◌, if◌then◌else◌}
+use Rattle.std.specs.Prelude.{ℕ, List, [], ◌∷◌, ◌++◌, map, codes, Bool, ◌||◌, ◌==◌, if◌then◌else◌}
 use Rattle.std.specs.List.{flat_map}
-use Rattle.pmp_text.specs.Tables.{records_of}
-use Rattle.pmp_forms.specs.declared.columns.Table.{Table}
-use Rattle.pmp_forms.specs.Columns.{ColumnSaid, columns_of, usual_columns, whole}
+use Rattle.pmp_text.specs.Cells.{RowValue, shown_text}
+use Rattle.pmp_text.specs.Columns.{column_name, kind_number}
+use Rattle.pmp_text.specs.declared.lines.row_kind.RowKind.{RowKind}
+use Rattle.pmp_forms.specs.declared.table.Table.{Table}
+use Rattle.pmp_forms.specs.Tables.{whole}
 
 -- one of |, \, *, _, `, [, ], ~ and $, which a backslash takes as it is
 abbrev pub is_markup : ℕ → Bool
@@ -27,23 +29,24 @@ cell text = codes " " ++ (flat_map cell_byte text ++ codes " |")
 abbrev pub line : (cells : List (List ℕ)) → List ℕ
 line cells = codes "|" ++ (flat_map cell cells ++ codes "\n")
 
-abbrev pub head : List ColumnSaid → List ℕ
-head columns = line (map (λ column. column.name) columns) ++ line (map (λ column. codes "---") columns)
+abbrev pub head : Table → RowKind → List ℕ
+head table kind = let columns = whole table kind in
+    line (map column_name columns) ++ line (map (λ column. codes "---") columns)
 
--- what is between a row and the next one: if that is of another kind, an empty line and the head of another table
-abbrev pub head_between : Table → (before : ℕ) → (fields : ℕ) → List ℕ
-head_between table before fields = if fields == before then [] else codes "\n" ++ head (columns_of table fields)
+abbrev pub row_line : RowValue → List ℕ
+row_line row = line (map shown_text row.cells)
 
--- rows behind one of so many fields
-abbrev pub rows_behind : Table → (before : ℕ) → (rows : List (List (List ℕ))) → List ℕ
-rows_behind table before [] = []
-rows_behind table before (fields ∷ rows) =
-    head_between table before (length fields) ++ (line fields ++ rows_behind table (length fields) rows)
+-- what is between a row of one kind and the next: if that is of another kind, an empty line and the head of another table
+abbrev pub head_between : Table → (before kind : RowKind) → List ℕ
+head_between table before kind =
+    if kind_number kind == kind_number before then [] else codes "\n" ++ head table kind
 
-abbrev pub tables : Table → (rows : List (List (List ℕ))) → List ℕ
-tables table [] = head (whole table (usual_columns table.report))
-tables table (fields ∷ rows) =
-    head (columns_of table (length fields)) ++ (line fields ++ rows_behind table (length fields) rows)
+-- rows after one of this kind
+abbrev pub rows_after : Table → (before : RowKind) → List RowValue → List ℕ
+rows_after table before [] = []
+rows_after table before (row ∷ rows) =
+    (head_between table before row.kind ++ row_line row) ++ rows_after table row.kind rows
 
-abbrev pub markdown_text : Table → (rows : List ℕ) → List ℕ
-markdown_text table rows = tables table (records_of rows)
+abbrev pub markdown_text : Table → List RowValue → List ℕ
+markdown_text table [] = head table table.kind
+markdown_text table (row ∷ rows) = head table row.kind ++ (row_line row ++ rows_after table row.kind rows)

@@ -1,16 +1,16 @@
 //! The rows of policies and findings as cases of tests.
 
-ghost use Rattle.std.specs.Prelude.{◌≡◌, ◌++◌, ◌<◌, IfOk, OnOk, length, map, nat_lt};
-ghost use Rattle.csv.specs.Records.{fields_of};
-ghost use Rattle.pmp_forms.specs.Cases.{at, between, breach_text, case_of, case_said, cases_of, label_at};
-ghost use Rattle.pmp_forms.specs.Cases.{finding_case, finding_text, line_of, moment_text, outcome_of};
-ghost use Rattle.pmp_forms.specs.Cases.{owner_text, path_of, range_text, remedy_of, suite_said, verdict_case};
-ghost use Rattle.pmp_forms.specs.Fields.{row_said};
+ghost use Rattle.std.specs.Prelude.{◌≡◌, ◌++◌, IfOk, OnOk, map};
+ghost use Rattle.pmp_text.specs.Columns.{column_value};
+ghost use Rattle.pmp_forms.specs.Cases.{above_zero, between, breach_text, case_of, case_said, cases_of, counted_text};
+ghost use Rattle.pmp_forms.specs.Cases.{finding_case, finding_text, finding_under, has_range, outcome_of, outcome_under};
+ghost use Rattle.pmp_forms.specs.Cases.{owner_text, path_of, range_text, suite_said, verdict_case, verdict_message};
 
+use crate::cells::{append_under, number_under, text_under};
+use crate::table::Table;
 use crate::texts::{append_all, bytes};
-use csv::ByteRecord;
-use pmp_lint::Lint as Finding;
-use pmp_text::{Records, read_numeral};
+use pmp_lint::Lint;
+use pmp_text::{AnswerRow, Cell, Column, Verdict, append_line, cell_under};
 use std::alloc::{AllocError, Global};
 
 /// What a script is checked for.
@@ -26,10 +26,11 @@ pub enum Check {
 #[derive(Clone, Copy)]
 pub struct Suite<'a> {
     pub check: Check,
+    pub table: Table,
     /// The path of the script, or of the folder of scripts.
     pub script: &'a [u8],
-    /// Whether each row begins with the name of a hart.
-    pub has_hart: bool,
+    /// The path of the policy, or nothing.
+    pub policy: &'a [u8],
     /// Whether verdicts count events, as with `--each-write`, and not publications.
     pub has_events: bool,
 }
@@ -46,67 +47,15 @@ pub enum Outcome {
 #[derive(Drop)]
 pub struct Case {
     pub outcome: Outcome,
-    /// `policy`, or the name of what is found.
-    pub rule: Vec<u8>,
+    /// What is found, or none if it is a row of a policy.
+    pub finding: Option<Lint>,
+    /// The number of the policy's row, or the line of the script, from 1, if there is one.
+    pub number: Option<u64>,
     /// The path of the script that it is about.
     pub path: Vec<u8>,
-    /// The line of the script that it is about, from 1.
-    pub line: Option<u64>,
     pub title: Vec<u8>,
     /// Why it failed, if it did.
     pub message: Vec<u8>,
-}
-
-/// A row behind the name of its hart.
-#[derive(Clone, Copy)]
-struct Row<'a> {
-    fields: &'a ByteRecord,
-    has_hart: bool,
-}
-
-/// Returns the field at a place, or nothing.
-fn field_or_nothing(fields: &ByteRecord, place: usize) -> &[u8]
-    ensures { result.now ≡ at (fields_of fields.now) place }
-{
-    match fields.get(place) {
-        Some(field) => field,
-        None => b"",
-    }
-}
-
-impl<'a> Row<'a> {
-    /// Returns the field at a place, or nothing.
-    #[tactic(auto, using(crate::proofs::Fields::behind_first))]
-    fn at(self, place: usize) -> &'a [u8]
-        requires { place < 16 }
-        ensures { result.now ≡ at (row_said self.entry) place }
-    {
-        if self.has_hart {
-            field_or_nothing(self.fields, place + 1)
-        } else {
-            field_or_nothing(self.fields, place)
-        }
-    }
-
-    /// Whether a name and a comment are among its fields.
-    fn has_label(self) -> bool
-        ensures { result ≡ nat_lt 7 (length (row_said self.entry)) }
-    {
-        let before = if self.has_hart { 8 } else { 7 };
-        before < self.fields.len()
-    }
-
-    /// Returns the name or the comment, which has this place, or nothing.
-    fn label(self, place: usize) -> &'a [u8]
-        requires { place < 16 }
-        ensures { result.now ≡ label_at (row_said self.entry) place }
-    {
-        if self.has_label() {
-            self.at(place)
-        } else {
-            b""
-        }
-    }
 }
 
 fn append_between(
@@ -123,160 +72,265 @@ fn append_between(
     append_all(out, &[before, text, behind])
 }
 
-fn append_path(out: &mut Vec<u8>, suite: Suite<'_>, fields: &ByteRecord) -> Result<(), AllocError>
-    ensures { OnOk result (out.new.items ≡ out.old.items ++ path_of (suite_said suite.entry) (fields_of fields.now)) }
+/// Returns the path of the script that a row is about.
+fn path_of(
+    alloc: Global,
+    suite: Suite<'_>,
+    columns: &[Column],
+    row: &AnswerRow,
+) -> Result<Vec<u8>, AllocError>
+    ensures { IfOk result (λ path. path.items
+        ≡ path_of (suite_said suite.entry) (map column_value columns.now) row.now.cells) }
 {
-    out.extend_from_slice(suite.script)?;
-    if !suite.has_hart {
-        return Ok(());
+    let mut path = Vec::new(alloc);
+    path.extend_from_slice(suite.script)?;
+    if suite.table.has_hart {
+        path.push(b'/')?;
+        append_under(&mut path, "hart", columns, row)?;
     }
-    append_all(out, &[b"/", field_or_nothing(fields, 0)])
+    Ok(path)
 }
 
-fn outcome_of(verdict: &[u8]) -> Outcome
-    ensures { result ≡ outcome_of verdict.now }
+fn outcome_of(verdict: Verdict) -> Outcome
+    ensures { result ≡ outcome_of verdict }
 {
-    if verdict == b"broken".as_slice() {
-        return Outcome::Failed;
+    match verdict {
+        Verdict::Holds => Outcome::Passed,
+        Verdict::Broken(_) | Verdict::Unmet(false) => Outcome::Failed,
+        Verdict::Unmet(true) => Outcome::Skipped,
     }
-    if verdict == b"unmet".as_slice() {
-        return Outcome::Skipped;
-    }
-    Outcome::Passed
 }
 
-fn append_owner(out: &mut Vec<u8>, owner: &[u8]) -> Result<(), AllocError>
-    ensures { OnOk result (out.new.items ≡ out.old.items ++ owner_text owner.now) }
+/// Returns how the case of a policy's row ended.
+fn outcome_under(columns: &[Column], row: &AnswerRow) -> Outcome
+    ensures { result ≡ outcome_under (map column_value columns.now) row.now.cells }
 {
-    if owner == b"-".as_slice() {
-        return Ok(out.extend_from_slice(b"no entry")?);
+    match cell_under("verdict", columns, row.cells()) {
+        Some(Cell::Verdict(verdict)) => outcome_of(*verdict),
+        _ => Outcome::Passed,
     }
-    append_all(out, &[b"entry ", owner])
 }
 
-fn append_moment(out: &mut Vec<u8>, has_events: bool, done: &[u8]) -> Result<(), AllocError>
-    ensures { OnOk result (out.new.items ≡ out.old.items ++ moment_text has_events done.now) }
+/// Returns the owner in words.
+fn owner_of(alloc: Global, owner: Option<u64>) -> Result<Vec<u8>, AllocError>
+    ensures { IfOk result (λ text. text.items ≡ owner_text owner) }
+{
+    let mut text = Vec::new(alloc);
+    match owner {
+        Some(entry) => append_line(&mut text, format_args!("entry {entry}"))?,
+        None => text.extend_from_slice(b"no entry")?,
+    }
+    Ok(text)
+}
+
+fn counted_word(has_events: bool) -> &'static [u8]
+    ensures { result.now ≡ counted_text has_events }
 {
     if has_events {
-        append_all(out, &[b"Broken after event ", done])
+        b"event "
     } else {
-        append_all(out, &[b"Broken after publication ", done])
+        b"publication "
     }
 }
 
-fn append_breach(out: &mut Vec<u8>, has_events: bool, row: Row<'_>) -> Result<(), AllocError>
-    ensures { OnOk result (out.new.items ≡ out.old.items ++ breach_text has_events (row_said row.entry)) }
+/// Returns when a policy's row is broken, for which bytes, and by which entry.
+fn breach_of(
+    alloc: Global,
+    has_events: bool,
+    columns: &[Column],
+    row: &AnswerRow,
+) -> Result<Vec<u8>, AllocError>
+    ensures { IfOk result (λ text. text.items
+        ≡ breach_text (map column_value columns.now) row.now.cells has_events) }
 {
-    append_moment(out, has_events, row.at(2))?;
+    let done = text_under(alloc, "done", columns, row)?;
+    let first = text_under(alloc, "first", columns, row)?;
+    let last = text_under(alloc, "last", columns, row)?;
+    let owner = owner_of(alloc, number_under("owner", columns, row))?;
+    let mut text = Vec::new(alloc);
     append_all(
-        out,
-        &[b": bytes 0x", row.at(3), b" to 0x", row.at(4), b" of "],
+        &mut text,
+        &[
+            b"Broken after ",
+            counted_word(has_events),
+            done.as_slice(),
+            b": bytes 0x",
+            first.as_slice(),
+            b" to 0x",
+            last.as_slice(),
+            b" of ",
+            owner.as_slice(),
+            b".",
+        ],
     )?;
-    append_owner(out, row.at(5))?;
-    out.push(b'.')?;
-    append_between(out, b" ", row.label(7), b"")
+    Ok(text)
 }
 
-fn remedy_of(name: &[u8]) -> &'static [u8]
-    ensures { result.now ≡ remedy_of name.now }
+/// Returns why a policy's row fails: it is broken, or its moments don't come.
+fn reason_of(
+    alloc: Global,
+    has_events: bool,
+    columns: &[Column],
+    row: &AnswerRow,
+) -> Result<Vec<u8>, AllocError>
+    ensures { IfOk result (λ text. text.items
+        ≡ verdict_message (map column_value columns.now) row.now.cells has_events) }
 {
-    match Finding::read(name) {
-        Some(finding) => finding.remedy().as_bytes(),
-        None => b"",
+    match cell_under("verdict", columns, row.cells()) {
+        Some(Cell::Verdict(Verdict::Broken(_))) => breach_of(alloc, has_events, columns, row),
+        _ => bytes(
+            alloc,
+            b"The row's moments don't come, or not in this order.",
+        ),
     }
 }
 
-fn append_range(out: &mut Vec<u8>, first: &[u8], last: &[u8]) -> Result<(), AllocError>
-    ensures { OnOk result (out.new.items ≡ out.old.items ++ range_text first.now last.now) }
+/// Returns what a row of findings finds.
+fn finding_under(
+    alloc: Global,
+    columns: &[Column],
+    row: &AnswerRow,
+) -> Result<Option<Lint>, AllocError>
+    ensures { IfOk result (λ lint. lint ≡ finding_under (map column_value columns.now) row.now.cells) }
 {
-    if first.len() <= 1 {
-        return Ok(());
-    }
-    append_all(out, &[b" Bytes 0x", first, b" to 0x", last, b"."])
+    let name = text_under(alloc, "name", columns, row)?;
+    Ok(Lint::read(&name))
 }
 
-/// Returns the line that a field gives, unless it is 0.
-fn line_of(field: &[u8]) -> Option<u64>
-    ensures { result ≡ line_of field.now }
+/// Whether a row has a range.
+fn has_range(columns: &[Column], row: &AnswerRow) -> bool
+    ensures { result ≡ has_range (map column_value columns.now) row.now.cells }
 {
-    match read_numeral(field, 10, 20) {
+    matches!(
+        cell_under("first", columns, row.cells()),
+        Some(Cell::Address(_))
+    )
+}
+
+/// Returns the bytes of a row's range, if it has one.
+fn range_of(alloc: Global, columns: &[Column], row: &AnswerRow) -> Result<Vec<u8>, AllocError>
+    ensures { IfOk result (λ text. text.items ≡ range_text (map column_value columns.now) row.now.cells) }
+{
+    let mut text = Vec::new(alloc);
+    if !has_range(columns, row) {
+        return Ok(text);
+    }
+    let first = text_under(alloc, "first", columns, row)?;
+    let last = text_under(alloc, "last", columns, row)?;
+    append_all(
+        &mut text,
+        &[
+            b" Bytes 0x",
+            first.as_slice(),
+            b" to 0x",
+            last.as_slice(),
+            b".",
+        ],
+    )?;
+    Ok(text)
+}
+
+/// Appends the remedy of what is found, its entry, its bytes and its modes.
+fn append_finding(
+    alloc: Global,
+    out: &mut Vec<u8>,
+    columns: &[Column],
+    row: &AnswerRow,
+) -> Result<(), AllocError>
+    ensures { OnOk result
+        (out.new.items ≡ out.old.items ++ finding_text (map column_value columns.now) row.now.cells) }
+{
+    if let Some(finding) = finding_under(alloc, columns, row)? {
+        out.extend_from_slice(finding.remedy().as_bytes())?;
+    }
+    let entry = text_under(alloc, "entry", columns, row)?;
+    append_between(out, b" Entry ", &entry, b".")?;
+    let range = range_of(alloc, columns, row)?;
+    out.extend_from_slice(&range)?;
+    let modes = text_under(alloc, "modes", columns, row)?;
+    append_between(out, b" Modes ", &modes, b".")
+}
+
+fn verdict_case(
+    alloc: Global,
+    suite: Suite<'_>,
+    columns: &[Column],
+    row: &AnswerRow,
+) -> Result<Case, AllocError>
+    ensures { IfOk result (λ case. case_said case
+        ≡ verdict_case (suite_said suite.entry) (map column_value columns.now) row.now.cells) }
+{
+    let name = text_under(alloc, "name", columns, row)?;
+    let mut title = text_under(alloc, "n", columns, row)?;
+    append_between(&mut title, b" ", &name, b"")?;
+    let comment = text_under(alloc, "comment", columns, row)?;
+    let mut message = reason_of(alloc, suite.has_events, columns, row)?;
+    append_between(&mut message, b" ", &comment, b"")?;
+    Ok(Case {
+        outcome: outcome_under(columns, row),
+        finding: None,
+        number: number_under("n", columns, row),
+        path: path_of(alloc, suite, columns, row)?,
+        title,
+        message,
+    })
+}
+
+/// Returns the line, unless it is 0.
+fn above_zero(line: Option<u64>) -> Option<u64>
+    ensures { result ≡ above_zero line }
+{
+    match line {
         Some(line) if line > 0 => Some(line),
         _ => None,
     }
 }
 
-fn append_finding(out: &mut Vec<u8>, row: Row<'_>) -> Result<(), AllocError>
-    ensures { OnOk result (out.new.items ≡ out.old.items ++ finding_text (row_said row.entry)) }
-{
-    out.extend_from_slice(remedy_of(row.at(1)))?;
-    append_between(out, b" Entry ", row.at(3), b".")?;
-    append_range(out, row.at(4), row.at(5))?;
-    append_between(out, b" Modes ", row.at(6), b".")
-}
-
-fn verdict_case(
+fn finding_case(
     alloc: Global,
-    path: Vec<u8>,
-    has_events: bool,
-    row: Row<'_>,
+    suite: Suite<'_>,
+    columns: &[Column],
+    row: &AnswerRow,
 ) -> Result<Case, AllocError>
-    ensures { IfOk result (λ case. case_said case ≡ verdict_case path.items has_events (row_said row.entry)) }
+    ensures { IfOk result (λ case. case_said case
+        ≡ finding_case (suite_said suite.entry) (map column_value columns.now) row.now.cells) }
 {
-    let mut title = Vec::new(alloc);
-    title.extend_from_slice(row.at(0))?;
-    append_between(&mut title, b" ", row.label(6), b"")?;
+    let mut title = text_under(alloc, "name", columns, row)?;
+    title.push(b':')?;
+    append_under(&mut title, "line", columns, row)?;
     let mut message = Vec::new(alloc);
-    append_breach(&mut message, has_events, row)?;
-    Ok(Case {
-        outcome: outcome_of(row.at(1)),
-        rule: bytes(alloc, b"policy")?,
-        path,
-        line: None,
-        title,
-        message,
-    })
-}
-
-fn finding_case(alloc: Global, path: Vec<u8>, row: Row<'_>) -> Result<Case, AllocError>
-    ensures { IfOk result (λ case. case_said case ≡ finding_case path.items (row_said row.entry)) }
-{
-    let mut title = Vec::new(alloc);
-    append_all(&mut title, &[row.at(1), b":", row.at(2)])?;
-    let mut message = Vec::new(alloc);
-    append_finding(&mut message, row)?;
+    append_finding(alloc, &mut message, columns, row)?;
     Ok(Case {
         outcome: Outcome::Failed,
-        rule: bytes(alloc, row.at(1))?,
-        path,
-        line: line_of(row.at(2)),
+        finding: finding_under(alloc, columns, row)?,
+        number: above_zero(number_under("line", columns, row)),
+        path: path_of(alloc, suite, columns, row)?,
         title,
         message,
     })
 }
 
-fn case_of(alloc: Global, suite: Suite<'_>, fields: &ByteRecord) -> Result<Case, AllocError>
-    ensures { IfOk result (λ case. case_said case ≡ case_of (suite_said suite.entry) (fields_of fields.now)) }
+fn case_of(alloc: Global, suite: Suite<'_>, row: &AnswerRow) -> Result<Case, AllocError>
+    ensures { IfOk result (λ case. case_said case ≡ case_of (suite_said suite.entry) row.now) }
 {
-    let mut path = Vec::new(alloc);
-    append_path(&mut path, suite, fields)?;
-    let row = Row {
-        fields,
-        has_hart: suite.has_hart,
-    };
+    let columns = suite.table.columns(alloc, row.kind())?;
     match suite.check {
-        Check::Policy => verdict_case(alloc, path, suite.has_events, row),
-        Check::Lint => finding_case(alloc, path, row),
+        Check::Policy => verdict_case(alloc, suite, &columns, row),
+        Check::Lint => finding_case(alloc, suite, &columns, row),
     }
 }
 
 /// Returns the rows as cases, in order.
-pub fn cases_of(alloc: Global, suite: Suite<'_>, rows: &[u8]) -> Result<Vec<Case>, AllocError>
+pub fn cases_of(
+    alloc: Global,
+    suite: Suite<'_>,
+    rows: &[AnswerRow],
+) -> Result<Vec<Case>, AllocError>
     ensures { IfOk result (λ cases. map case_said cases.items ≡ cases_of (suite_said suite.entry) rows.now) }
 {
     let mut cases = Vec::new(alloc);
-    let mut records = Records::open(alloc, rows);
-    while records.read()? {
-        cases.push(case_of(alloc, suite, records.fields())?)?;
+    for row in rows {
+        cases.push(case_of(alloc, suite, row)?)?;
     }
     Ok(cases)
 }

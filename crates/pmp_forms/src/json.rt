@@ -1,17 +1,17 @@
 //! Rows as JSON.
 
-ghost use Rattle.std.specs.Prelude.{◌≡◌, ◌++◌, ◌∷◌, ◌+◌, List, IfOk, OnOk, false, nat_lt};
-ghost use Rattle.csv.specs.Records.{fields_of};
+ghost use Rattle.std.specs.Prelude.{◌≡◌, ◌++◌, ◌∷◌, IfOk, OnOk, false, map};
+ghost use Rattle.std.specs.List.{flat_map};
 ghost use Rattle.serde_json.specs.Data.{string};
 ghost use Rattle.serde_json.specs.View.{view};
-ghost use Rattle.serde_json.specs.Written.{comma_if, compact_text, has_float};
-ghost use Rattle.pmp_forms.specs.Columns.{ColumnSaid, column_said};
-ghost use Rattle.pmp_forms.specs.Json.{datum, json_text, row_object};
-ghost use Rattle.pmp_forms.specs.Members.{members_from};
+ghost use Rattle.serde_json.specs.Written.{comma_if, compact_text, has_float, members_text};
+ghost use Rattle.pmp_text.specs.Cells.{cell_value};
+ghost use Rattle.pmp_text.specs.Columns.{column_name, column_value};
+ghost use Rattle.pmp_forms.specs.Json.{datum, json_text, members, object_after, row_object};
 
-use crate::columns::{Column, Columns, Table};
-use csv::ByteRecord;
-use pmp_text::{Records, read_numeral};
+use crate::cells::{number_in, shown};
+use crate::table::Table;
+use pmp_text::{AnswerRow, Cell, Column};
 use serde_json::Value;
 use std::alloc::{AllocError, Global};
 
@@ -23,98 +23,116 @@ fn append_value(alloc: Global, out: &mut Vec<u8>, value: &Value) -> Result<(), A
     Ok(out.extend_from_slice(text.as_bytes())?)
 }
 
-/// Returns what a field says in a column.
-fn datum(alloc: Global, column: Column, field: &[u8]) -> Result<Value, AllocError>
-    ensures { IfOk result (λ value. view value ≡ datum (column_said column) field.now) }
+/// Returns what a cell says in a column.
+fn datum(alloc: Global, column: Column, cell: &Cell<Vec<u8>>) -> Result<Value, AllocError>
+    ensures { IfOk result (λ value. view value
+        ≡ datum (column_value column) (cell_value (λ text. text.items) cell.now)) }
 {
     if !column.is_number() {
-        return Ok(Value::String(String::from_utf8_lossy(alloc, field)?));
+        let text = shown(alloc, cell)?;
+        return Ok(Value::String(String::from_utf8_lossy(alloc, &text)?));
     }
-    match read_numeral(field, 10, 20) {
+    match number_in(cell) {
         Some(number) => Ok(Value::from(number)),
         None => Ok(Value::Null),
     }
 }
 
-/// Appends the member with this number, from 0.
+/// Appends a member, behind others or not.
 fn append_member(
     alloc: Global,
     out: &mut Vec<u8>,
-    index: usize,
+    is_behind: bool,
     column: Column,
-    field: &[u8],
+    cell: &Cell<Vec<u8>>,
 ) -> Result<(), AllocError>
-    ensures { OnOk result (out.new.items ≡ out.old.items ++ (comma_if (nat_lt 0 index)
-        ++ (compact_text (string (column_said column).name)
-        ++ 58 ∷ compact_text (datum (column_said column) field.now)))) }
+    ensures { OnOk result (out.new.items ≡ out.old.items ++ (comma_if is_behind
+        ++ (compact_text (string (column_name (column_value column)))
+        ++ 58 ∷ compact_text (datum (column_value column) (cell_value (λ text. text.items) cell.now))))) }
 {
-    if index > 0 {
+    if is_behind {
         out.push(b',')?;
     }
     let name = Value::String(String::from_str(alloc, column.name())?);
     append_value(alloc, out, &name)?;
     out.push(b':')?;
-    let value = datum(alloc, column, field)?;
+    let value = datum(alloc, column, cell)?;
     append_value(alloc, out, &value)
 }
 
-/// Appends the member with this number in a column, if the row has its field.
-fn append_next(
+/// Appends the cells under the names of their columns, and `}`.
+fn append_members(
     alloc: Global,
     out: &mut Vec<u8>,
-    index: usize,
-    column: Column,
-    fields: &ByteRecord,
+    columns: &[Column],
+    cells: &[Cell<Vec<u8>>],
 ) -> Result<(), AllocError>
-    ensures { OnOk result ((columns : List ColumnSaid) → out.new.items
-        ++ members_from (index + 1) columns (fields_of fields.now)
-        ≡ out.old.items ++ members_from index (column_said column ∷ columns) (fields_of fields.now)) }
+    ensures { OnOk result (out.new.items ≡ out.old.items ++ members_text false
+        (members (map column_value columns.now) (map (cell_value (λ text. text.items)) cells.now))) }
 {
-    match fields.get(index) {
-        Some(field) => Ok(append_member(alloc, out, index, column, field)?),
-        None => Ok(()),
+    let mut heads = columns;
+    let mut rest = cells;
+    let mut is_behind = false;
+    while let Some((column, other_heads)) = heads.split_first() {
+        let Some((cell, other_cells)) = rest.split_first() else {
+            return Ok(out.push(b'}')?);
+        };
+        append_member(alloc, out, is_behind, *column, cell)?;
+        is_behind = true;
+        heads = other_heads;
+        rest = other_cells;
     }
+    Ok(out.push(b'}')?)
 }
 
 fn append_row(
     alloc: Global,
     out: &mut Vec<u8>,
-    columns: &Columns,
-    fields: &ByteRecord,
+    table: Table,
+    row: &AnswerRow,
 ) -> Result<(), AllocError>
-    ensures { OnOk result
-        (out.new.items ≡ out.old.items ++ row_object columns.now.table (fields_of fields.now)) }
+    ensures { OnOk result (out.new.items ≡ out.old.items ++ row_object table row.now) }
 {
-    let under = columns.of(fields.len());
+    let columns = table.columns(alloc, row.kind())?;
     out.push(b'{')?;
-    for (index, column) in under.iter().enumerate() {
-        append_next(alloc, out, index, *column, fields)?;
+    append_members(alloc, out, &columns, row.cells())
+}
+
+/// Appends rows, each after a comma and LF.
+fn append_others(
+    alloc: Global,
+    out: &mut Vec<u8>,
+    table: Table,
+    rows: &[AnswerRow],
+) -> Result<(), AllocError>
+    ensures { OnOk result (out.new.items ≡ out.old.items ++ flat_map (object_after table) rows.now) }
+{
+    for row in rows {
+        out.extend_from_slice(b",\n")?;
+        append_row(alloc, out, table, row)?;
     }
-    Ok(out.push(b'}')?)
+    Ok(())
 }
 
 /// Appends rows as a JSON array with an object for each row, each on a line of its own.
 ///
-/// The members are the fields under their columns' names, in order: in a column of numbers a number, or null if the
-/// field has none, and otherwise a string. The only error is that memory runs out; then a part may have been appended.
+/// The members are the cells under their columns' names, in order: in a column of numbers a number, or null if the cell
+/// has none, and otherwise a string. The only error is that memory runs out; then a part may have been appended.
 pub fn append_json(
     alloc: Global,
     out: &mut Vec<u8>,
     table: Table,
-    rows: &[u8],
+    rows: &[AnswerRow],
 ) -> Result<(), AllocError>
     ensures { OnOk result (out.new.items ≡ out.old.items ++ json_text table rows.now) }
 {
-    let columns = Columns::new(alloc, table)?;
-    let mut records = Records::open(alloc, rows);
-    if !records.read()? {
-        return Ok(out.extend_from_slice(b"[]\n")?);
+    match rows.split_first() {
+        None => Ok(out.extend_from_slice(b"[]\n")?),
+        Some((first, others)) => {
+            out.extend_from_slice(b"[\n")?;
+            append_row(alloc, out, table, first)?;
+            append_others(alloc, out, table, others)?;
+            Ok(out.extend_from_slice(b"\n]\n")?)
+        }
     }
-    out.extend_from_slice(b"[\n")?;
-    append_row(alloc, out, &columns, records.fields())?;
-    while records.read()? {
-        out.extend_from_slice(b",\n")?;
-        append_row(alloc, out, &columns, records.fields())?;
-    }
-    Ok(out.extend_from_slice(b"\n]\n")?)
 }

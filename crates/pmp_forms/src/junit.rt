@@ -9,7 +9,7 @@ ghost use Rattle.pmp_forms.specs.Junit.{tag_text, xml, xml_byte};
 
 use crate::cases::{Case, Check, Outcome, Suite, cases_of};
 use crate::texts::{append_all, bytes};
-use pmp_text::append_line;
+use pmp_text::{AnswerRow, append_line};
 use std::alloc::{AllocError, Global};
 
 fn is_forbidden(byte: u8) -> bool
@@ -109,16 +109,16 @@ fn no_findings(alloc: Global, script: &[u8]) -> Result<Case, AllocError>
 {
     Ok(Case {
         outcome: Outcome::Passed,
-        rule: Vec::new(alloc),
+        finding: None,
+        number: None,
         path: bytes(alloc, script)?,
-        line: None,
         title: bytes(alloc, b"no findings")?,
         message: Vec::new(alloc),
     })
 }
 
 /// Returns the cases of rows, or if there are no findings, a case that says so.
-fn shown(alloc: Global, suite: Suite<'_>, rows: &[u8]) -> Result<Vec<Case>, AllocError>
+fn shown(alloc: Global, suite: Suite<'_>, rows: &[AnswerRow]) -> Result<Vec<Case>, AllocError>
     ensures { IfOk result (λ cases. map case_said cases.items
         ≡ shown (suite_said suite.entry) (cases_of (suite_said suite.entry) rows.now)) }
 {
@@ -203,13 +203,14 @@ fn append_suite(
 /// Appends rows of a policy or findings as a suite of JUnit's XML, with a case for each row; if there are no findings,
 /// one case says so.
 ///
-/// A broken row and a finding are failures, a row that is unmet is skipped. The only error is that memory runs out;
+/// A finding is a failure, and so is a row that is broken, or unmet unless it waives that; then it is skipped. The only
+/// error is that memory runs out;
 /// then a part may have been appended.
 pub fn append_junit(
     alloc: Global,
     out: &mut Vec<u8>,
     suite: Suite<'_>,
-    rows: &[u8],
+    rows: &[AnswerRow],
 ) -> Result<(), AllocError>
     ensures { OnOk result (out.new.items ≡ out.old.items ++ junit_text (suite_said suite.entry) rows.now) }
 {

@@ -1,13 +1,14 @@
 //! Rows as tables of Markdown.
 
-ghost use Rattle.std.specs.Prelude.{◌≡◌, ◌++◌, OnOk, codes, length, map};
-ghost use Rattle.csv.specs.Records.{fields_of};
-ghost use Rattle.pmp_forms.specs.Columns.{said};
-ghost use Rattle.pmp_forms.specs.Markdown.{cell, cell_byte, head, head_between, is_markup, line, markdown_text};
+ghost use Rattle.std.specs.Prelude.{◌≡◌, ◌++◌, OnOk, codes, map};
+ghost use Rattle.pmp_text.specs.Cells.{cell_value, shown_text};
+ghost use Rattle.pmp_text.specs.Columns.{column_name, column_value};
+ghost use Rattle.pmp_forms.specs.Markdown.{cell, cell_byte, head, head_between, is_markup, line, markdown_text, row_line};
+ghost use Rattle.pmp_forms.specs.Markdown.{rows_after};
 
-use crate::columns::{Column, Columns, Table};
-use csv::ByteRecord;
-use pmp_text::Records;
+use crate::cells::shown;
+use crate::table::Table;
+use pmp_text::{AnswerRow, Cell, Column, RowKind};
 use std::alloc::{AllocError, Global};
 
 /// Whether a byte has a meaning in a cell that a backslash takes away.
@@ -43,22 +44,21 @@ fn append_cell(out: &mut Vec<u8>, text: &[u8]) -> Result<(), AllocError>
     Ok(out.extend_from_slice(b" |")?)
 }
 
-#[tactic(auto, using(crate::proofs::Fields::field_here, crate::proofs::Fields::no_field_here))]
-fn append_line(out: &mut Vec<u8>, fields: &ByteRecord) -> Result<(), AllocError>
-    ensures { OnOk result (out.new.items ≡ out.old.items ++ line (fields_of fields.now)) }
+fn append_line(alloc: Global, out: &mut Vec<u8>, cells: &[Cell<Vec<u8>>]) -> Result<(), AllocError>
+    ensures { OnOk result (out.new.items
+        ≡ out.old.items ++ line (map shown_text (map (cell_value (λ text. text.items)) cells.now))) }
 {
-    let mut index = 0;
     out.push(b'|')?;
-    while let Some(field) = fields.get(index) {
-        append_cell(out, field)?;
-        index += 1;
+    for one in cells {
+        let text = shown(alloc, one)?;
+        append_cell(out, &text)?;
     }
     Ok(out.push(b'\n')?)
 }
 
 fn append_names(out: &mut Vec<u8>, columns: &[Column]) -> Result<(), AllocError>
     ensures { OnOk result
-        (out.new.items ≡ out.old.items ++ line (map (λ column. column.name) (said columns.now))) }
+        (out.new.items ≡ out.old.items ++ line (map column_name (map column_value columns.now))) }
 {
     out.push(b'|')?;
     for column in columns {
@@ -69,7 +69,7 @@ fn append_names(out: &mut Vec<u8>, columns: &[Column]) -> Result<(), AllocError>
 
 fn append_rule(out: &mut Vec<u8>, columns: &[Column]) -> Result<(), AllocError>
     ensures { OnOk result
-        (out.new.items ≡ out.old.items ++ line (map (λ column. codes "---") (said columns.now))) }
+        (out.new.items ≡ out.old.items ++ line (map (λ column. codes "---") (map column_value columns.now))) }
 {
     out.push(b'|')?;
     for _column in columns {
@@ -78,28 +78,53 @@ fn append_rule(out: &mut Vec<u8>, columns: &[Column]) -> Result<(), AllocError>
     Ok(out.push(b'\n')?)
 }
 
-fn append_head(out: &mut Vec<u8>, columns: &[Column]) -> Result<(), AllocError>
-    ensures { OnOk result (out.new.items ≡ out.old.items ++ head (said columns.now)) }
+fn append_head(
+    alloc: Global,
+    out: &mut Vec<u8>,
+    table: Table,
+    kind: RowKind,
+) -> Result<(), AllocError>
+    ensures { OnOk result (out.new.items ≡ out.old.items ++ head table kind) }
 {
-    append_names(out, columns)?;
-    append_rule(out, columns)
+    let columns = table.columns(alloc, kind)?;
+    append_names(out, &columns)?;
+    append_rule(out, &columns)
 }
 
-/// Appends a row behind one of so many fields.
+/// Appends a row after one of this kind.
 fn append_row(
+    alloc: Global,
     out: &mut Vec<u8>,
-    columns: &Columns,
-    before: usize,
-    fields: &ByteRecord,
+    table: Table,
+    before: RowKind,
+    row: &AnswerRow,
 ) -> Result<(), AllocError>
-    ensures { OnOk result (out.new.items ≡ out.old.items
-        ++ (head_between columns.now.table before (length (fields_of fields.now)) ++ line (fields_of fields.now))) }
+    ensures { OnOk result
+        (out.new.items ≡ out.old.items ++ (head_between table before row.now.kind ++ row_line row.now)) }
 {
-    if fields.len() != before {
+    if row.kind().number() != before.number() {
         out.push(b'\n')?;
-        append_head(out, columns.of(fields.len()))?;
+        append_head(alloc, out, table, row.kind())?;
     }
-    append_line(out, fields)
+    append_line(alloc, out, row.cells())
+}
+
+/// Appends rows after one of this kind.
+fn append_others(
+    alloc: Global,
+    out: &mut Vec<u8>,
+    table: Table,
+    kind: RowKind,
+    rows: &[AnswerRow],
+) -> Result<(), AllocError>
+    ensures { OnOk result (out.new.items ≡ out.old.items ++ rows_after table kind rows.now) }
+{
+    let mut before = kind;
+    for row in rows {
+        append_row(alloc, out, table, before, row)?;
+        before = row.kind();
+    }
+    Ok(())
 }
 
 /// Appends rows as a table of GitHub's Markdown. Where rows of another kind begin, so does another table, after an
@@ -110,21 +135,16 @@ pub fn append_markdown(
     alloc: Global,
     out: &mut Vec<u8>,
     table: Table,
-    rows: &[u8],
+    rows: &[AnswerRow],
 ) -> Result<(), AllocError>
     ensures { OnOk result (out.new.items ≡ out.old.items ++ markdown_text table rows.now) }
 {
-    let columns = Columns::new(alloc, table)?;
-    let mut records = Records::open(alloc, rows);
-    if !records.read()? {
-        return append_head(out, columns.usual());
+    match rows.split_first() {
+        None => append_head(alloc, out, table, table.kind),
+        Some((first, others)) => {
+            append_head(alloc, out, table, first.kind())?;
+            append_line(alloc, out, first.cells())?;
+            append_others(alloc, out, table, first.kind(), others)
+        }
     }
-    let mut before = records.fields().len();
-    append_head(out, columns.of(before))?;
-    append_line(out, records.fields())?;
-    while records.read()? {
-        append_row(out, &columns, before, records.fields())?;
-        before = records.fields().len();
-    }
-    Ok(())
 }

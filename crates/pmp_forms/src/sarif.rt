@@ -1,18 +1,19 @@
 //! Cases as SARIF 2.1.0.
 
 ghost use Rattle.std.specs.List.{flat_map};
-ghost use Rattle.std.specs.Prelude.{◌≡◌, ◌++◌, ◌∷◌, [], IfOk, OnOk, codes, map};
-ghost use Rattle.pmp_forms.specs.Cases.{case_said, cases_of, joined, suite_said};
-ghost use Rattle.pmp_forms.specs.Sarif.{after_comma, elements, json_string, level, lint_rule, location};
-ghost use Rattle.pmp_forms.specs.Sarif.{log_text, reason, region, result_text, results_of, rule_text, rules_of};
-ghost use Rattle.pmp_forms.specs.Sarif.{sarif_text};
+ghost use Rattle.std.specs.Prelude.{◌≡◌, ◌++◌, IfOk, OnOk, map};
+ghost use Rattle.pmp_forms.specs.Cases.{case_said, cases_of, suite_said};
+ghost use Rattle.pmp_forms.specs.Sarif.{after_comma, elements, finding_location, found_text, json_string, level};
+ghost use Rattle.pmp_forms.specs.Sarif.{line_of, lint_rule, location, locations, log_text, message, most_row, region};
+ghost use Rattle.pmp_forms.specs.Sarif.{result_text, results_of, row_location, row_name, row_rule, row_rules, rule_name};
+ghost use Rattle.pmp_forms.specs.Sarif.{rule_text, rules_of, sarif_text};
 ghost use Rattle.pmp_forms.specs.Texts.{text_items};
 
 use crate::cases::{Case, Check, Outcome, Suite, cases_of};
 use crate::texts::{append_all, bytes};
 use percent_encoding::{AsciiSet, NON_ALPHANUMERIC, ascii_set, percent_encode};
 use pmp_lint::Lint;
-use pmp_text::append_line;
+use pmp_text::{AnswerRow, append_line};
 use serde_json::Value;
 use std::alloc::{AllocError, Global};
 
@@ -100,17 +101,64 @@ fn lint_rules(alloc: Global, lints: &[Lint]) -> Result<Vec<Vec<u8>>, AllocError>
     Ok(all)
 }
 
-fn rules_of(alloc: Global, check: Check) -> Result<Vec<Vec<u8>>, AllocError>
-    ensures { IfOk result (λ all. text_items all.items ≡ rules_of check) }
+/// Returns the name of the rule of a policy's row.
+fn row_name(alloc: Global, number: u64) -> Result<Vec<u8>, AllocError>
+    ensures { IfOk result (λ all. all.items ≡ row_name number) }
+{
+    let mut all = Vec::new(alloc);
+    append_line(&mut all, format_args!("policy/{number}"))?;
+    Ok(all)
+}
+
+fn row_rule(alloc: Global, number: u64) -> Result<Vec<u8>, AllocError>
+    ensures { IfOk result (λ all. all.items ≡ row_rule number) }
+{
+    let name = row_name(alloc, number)?;
+    let mut description = Vec::new(alloc);
+    append_line(
+        &mut description,
+        format_args!("Row {number} of the policy holds."),
+    )?;
+    rule_text(alloc, &name, &description)
+}
+
+/// Returns the greatest number of a row.
+fn most_row(cases: &[Case]) -> u64
+    ensures { result ≡ most_row (map case_said cases.now) }
+{
+    let mut most = 0;
+    for case in cases {
+        most = most.max(case.number.unwrap_or(0));
+    }
+    most
+}
+
+fn row_rules(alloc: Global, most: u64) -> Result<Vec<Vec<u8>>, AllocError>
+    ensures { IfOk result (λ all. text_items all.items ≡ row_rules most) }
+{
+    let mut all = Vec::new(alloc);
+    for index in 0..most {
+        let rule = row_rule(alloc, index + 1)?;
+        all.push(rule)?;
+    }
+    Ok(all)
+}
+
+fn rules_of(alloc: Global, check: Check, cases: &[Case]) -> Result<Vec<Vec<u8>>, AllocError>
+    ensures { IfOk result (λ all. text_items all.items ≡ rules_of check (map case_said cases.now)) }
 {
     match check {
-        Check::Policy => {
-            let mut all = Vec::new(alloc);
-            let text = b"What the row of the policy demands holds.";
-            all.push(rule_text(alloc, b"policy", text)?)?;
-            Ok(all)
-        }
+        Check::Policy => row_rules(alloc, most_row(cases)),
         Check::Lint => lint_rules(alloc, &Lint::ALL),
+    }
+}
+
+fn rule_name(alloc: Global, case: &Case) -> Result<Vec<u8>, AllocError>
+    ensures { IfOk result (λ all. all.items ≡ rule_name (case_said case.now)) }
+{
+    match case.finding {
+        Some(finding) => bytes(alloc, finding.name().as_bytes()),
+        None => row_name(alloc, case.number.unwrap_or(0)),
     }
 }
 
@@ -123,13 +171,24 @@ fn level(outcome: Outcome) -> &'static [u8]
     }
 }
 
-fn reason(case: &Case) -> &[u8]
-    ensures { result.now ≡ reason (case_said case.now) }
+/// Appends what was found, before its remedy.
+fn append_found(out: &mut Vec<u8>, finding: Option<Lint>) -> Result<(), AllocError>
+    ensures { OnOk result (out.new.items ≡ out.old.items ++ found_text finding) }
 {
-    match case.outcome {
-        Outcome::Failed => &case.message,
-        _ => b"unmet",
+    match finding {
+        Some(finding) => append_all(out, &[finding.says().as_bytes(), b" "]),
+        None => Ok(()),
     }
+}
+
+fn message(alloc: Global, case: &Case) -> Result<Vec<u8>, AllocError>
+    ensures { IfOk result (λ all. all.items ≡ json_string (message (case_said case.now))) }
+{
+    let mut all = Vec::new(alloc);
+    append_all(&mut all, &[case.title.as_slice(), b": "])?;
+    append_found(&mut all, case.finding)?;
+    all.extend_from_slice(&case.message)?;
+    json_string(alloc, &all)
 }
 
 fn append_region(out: &mut Vec<u8>, line: Option<u64>) -> Result<(), AllocError>
@@ -141,14 +200,15 @@ fn append_region(out: &mut Vec<u8>, line: Option<u64>) -> Result<(), AllocError>
     }
 }
 
-fn location(alloc: Global, case: &Case) -> Result<Vec<u8>, AllocError>
-    ensures { IfOk result (λ all. all.items ≡ location (case_said case.now)) }
+/// Returns the place of a line of a file.
+fn location(alloc: Global, path: &[u8], line: Option<u64>) -> Result<Vec<u8>, AllocError>
+    ensures { IfOk result (λ all. all.items ≡ location path.now line) }
 {
     let mut uri = String::new(alloc);
-    percent_encode(&case.path, ESCAPED).append_to(&mut uri)?;
+    percent_encode(path, ESCAPED).append_to(&mut uri)?;
     let uri = json_string(alloc, uri.as_bytes())?;
     let mut region = Vec::new(alloc);
-    append_region(&mut region, case.line)?;
+    append_region(&mut region, line)?;
     let mut all = Vec::new(alloc);
     append_all(
         &mut all,
@@ -163,21 +223,62 @@ fn location(alloc: Global, case: &Case) -> Result<Vec<u8>, AllocError>
     Ok(all)
 }
 
-fn message(alloc: Global, case: &Case) -> Result<Vec<u8>, AllocError>
-    ensures { IfOk result (λ all. all.items
-        ≡ json_string (joined ((case_said case.now).title ∷ codes ": " ∷ reason (case_said case.now) ∷ []))) }
+/// Returns where a finding is, in its script.
+fn finding_location(alloc: Global, case: &Case) -> Result<Vec<u8>, AllocError>
+    ensures { IfOk result (λ all. all.items ≡ finding_location (case_said case.now)) }
 {
+    let at = location(alloc, &case.path, case.number)?;
     let mut all = Vec::new(alloc);
-    append_all(&mut all, &[case.title.as_slice(), b": ", reason(case)])?;
-    json_string(alloc, &all)
+    append_all(&mut all, &[b",\"locations\":[", at.as_slice(), b"]"])?;
+    Ok(all)
 }
 
-fn result_text(alloc: Global, case: &Case) -> Result<Vec<u8>, AllocError>
-    ensures { IfOk result (λ all. all.items ≡ result_text (case_said case.now)) }
+/// Returns where a policy's row is, and which script it is about.
+fn row_location(alloc: Global, policy: &[u8], case: &Case) -> Result<Vec<u8>, AllocError>
+    ensures { IfOk result (λ all. all.items ≡ row_location policy.now (case_said case.now)) }
 {
-    let rule = json_string(alloc, &case.rule)?;
+    let at = location(alloc, policy, line_of(case.number))?;
+    let script = location(alloc, &case.path, None)?;
+    let mut all = Vec::new(alloc);
+    append_all(
+        &mut all,
+        &[
+            b",\"locations\":[",
+            at.as_slice(),
+            b"],\"relatedLocations\":[",
+            script.as_slice(),
+            b"]",
+        ],
+    )?;
+    Ok(all)
+}
+
+/// Returns the line of a policy that has the row with this number, where each row is one line.
+fn line_of(number: Option<u64>) -> Option<u64>
+    ensures { result ≡ line_of number }
+{
+    match number {
+        Some(number) => Some(number.saturating_add(1)),
+        None => None,
+    }
+}
+
+fn locations(alloc: Global, policy: &[u8], case: &Case) -> Result<Vec<u8>, AllocError>
+    ensures { IfOk result (λ all. all.items ≡ locations policy.now (case_said case.now)) }
+{
+    match case.finding {
+        Some(_) => finding_location(alloc, case),
+        None => row_location(alloc, policy, case),
+    }
+}
+
+fn result_text(alloc: Global, policy: &[u8], case: &Case) -> Result<Vec<u8>, AllocError>
+    ensures { IfOk result (λ all. all.items ≡ result_text policy.now (case_said case.now)) }
+{
+    let name = rule_name(alloc, case)?;
+    let rule = json_string(alloc, &name)?;
     let message = message(alloc, case)?;
-    let location = location(alloc, case)?;
+    let locations = locations(alloc, policy, case)?;
     let mut all = Vec::new(alloc);
     append_all(
         &mut all,
@@ -188,31 +289,36 @@ fn result_text(alloc: Global, case: &Case) -> Result<Vec<u8>, AllocError>
             level(case.outcome),
             b"\",\"message\":{\"text\":",
             message.as_slice(),
-            b"},\"locations\":[",
-            location.as_slice(),
-            b"]}",
+            b"}",
+            locations.as_slice(),
+            b"}",
         ],
     )?;
     Ok(all)
 }
 
 /// Adds the result of a case, if it has one.
-fn add_result(alloc: Global, results: &mut Vec<Vec<u8>>, case: &Case) -> Result<(), AllocError>
+fn add_result(
+    alloc: Global,
+    results: &mut Vec<Vec<u8>>,
+    policy: &[u8],
+    case: &Case,
+) -> Result<(), AllocError>
     ensures { OnOk result
-        (text_items results.new.items ≡ text_items results.old.items ++ results_of (case_said case.now)) }
+        (text_items results.new.items ≡ text_items results.old.items ++ results_of policy.now (case_said case.now)) }
 {
     if matches!(case.outcome, Outcome::Passed) {
         return Ok(());
     }
-    Ok(results.push(result_text(alloc, case)?)?)
+    Ok(results.push(result_text(alloc, policy, case)?)?)
 }
 
-fn results_of(alloc: Global, cases: &[Case]) -> Result<Vec<Vec<u8>>, AllocError>
-    ensures { IfOk result (λ all. text_items all.items ≡ flat_map results_of (map case_said cases.now)) }
+fn results_of(alloc: Global, policy: &[u8], cases: &[Case]) -> Result<Vec<Vec<u8>>, AllocError>
+    ensures { IfOk result (λ all. text_items all.items ≡ flat_map (results_of policy.now) (map case_said cases.now)) }
 {
     let mut results = Vec::new(alloc);
     for case in cases {
-        add_result(alloc, &mut results, case)?;
+        add_result(alloc, &mut results, policy, case)?;
     }
     Ok(results)
 }
@@ -236,18 +342,19 @@ fn append_log(out: &mut Vec<u8>, rules: &[Vec<u8>], results: &[Vec<u8>]) -> Resu
 
 /// Appends rows of a policy or findings as a log of SARIF 2.1.0: the rules, and each result on a line of its own.
 ///
-/// A broken row and a finding have the level `error`, a row that is unmet has `warning`, and a row that holds is no
-/// result. The only error is that memory runs out; then a part may have been appended.
+/// A finding has the level `error`, and so has a row that is broken, or unmet unless it waives that; then it has
+/// `warning`. A row that holds is no result. A finding is at its line of the script, and a policy's row at its own, where
+/// the policy has a row a line. The only error is that memory runs out; then a part may have been appended.
 pub fn append_sarif(
     alloc: Global,
     out: &mut Vec<u8>,
     suite: Suite<'_>,
-    rows: &[u8],
+    rows: &[AnswerRow],
 ) -> Result<(), AllocError>
     ensures { OnOk result (out.new.items ≡ out.old.items ++ sarif_text (suite_said suite.entry) rows.now) }
 {
     let cases = cases_of(alloc, suite, rows)?;
-    let rules = rules_of(alloc, suite.check)?;
-    let results = results_of(alloc, &cases)?;
+    let rules = rules_of(alloc, suite.check, &cases)?;
+    let results = results_of(alloc, suite.policy, &cases)?;
     append_log(out, &rules, &results)
 }

@@ -12,7 +12,8 @@ use Rattle.pmp_map.specs.RightsRuns.{HasRights}
 use Rattle.pmp_lint.specs.declared.finding.Finding.{Finding}
 use Rattle.pmp_lint.specs.declared.stretch.Stretch.{Stretch}
 use Rattle.pmp_lint.specs.OpenBetween.{AreFoundBetween, AreStretchesFrom, IsOpened, IsStretch, of_stretches, open_between, opens}
-use Rattle.pmp_lint.specs.Telling.{HasTold, HasToldSome, Telling, then_told}
+use Rattle.pmp_text.specs.Cells.{RowValue}
+use Rattle.pmp_lint.specs.Telling.{HasTold, HasToldSome, Telling}
 use Rattle.pmp_lint.proofs.Telling.{then_none, told_more}
 
 -- a byte has one set of rights in a file
@@ -53,23 +54,26 @@ module _ (before during after : RegisterFile) where
   one_stretch_more first end (one ∷ stretches) stretch are begins is =
       (are.0, are.1, one_stretch_more (one.last + 1) end stretches stretch are.2 begins is)
 
-  module _ (line : ℕ) where
+  module _ {A : Type 0} (Adds : List RowValue → A → A → Type 0)
+      (none : (rows : A) → Adds [] rows rows)
+      (both : (one other : List RowValue) (first second third : A) → Adds one first second → Adds other second third
+      → Adds (one ++ other) first third) (line : ℕ) where
     abbrev finding_of : Stretch → List Finding
     finding_of stretch = option_to_list (open_between line stretch)
 
     -- the findings of the bytes below this one are told
-    pub record AreToldTo (start : Telling) (first : ℕ) (now : Telling) : Type 0 where
+    pub record AreToldTo (start : Telling A) (first : ℕ) (now : Telling A) : Type 0 where
       pub inside : first ≤ ADDRESS_LIMIT
       pub stretches : List Stretch
       pub stretches_are : AreStretchesFrom before during after 0 first stretches
-      pub told : HasTold (of_stretches line stretches) start now
+      pub told : HasTold Adds (of_stretches line stretches) start now
 
-    pub none_told : (start : Telling) → AreToldTo start 0 start
+    pub none_told : (start : Telling A) → AreToldTo start 0 start
     none_told start = record {
       inside = omega arith;
       stretches = [];
       stretches_are = refl;
-      told = then_none start;
+      told = then_none Adds none both start;
     }
 
     found_more : (stretches : List Stretch) (stretch : Stretch) → of_stretches line (stretches ++ stretch ∷ [])
@@ -78,19 +82,19 @@ module _ (before during after : RegisterFile) where
         flat_map-append finding_of stretches (stretch ∷ [])
         ∙ ap (λ l. of_stretches line stretches ++ l) (append-nil (finding_of stretch))
 
-    pub one_more_told : (start now then : Telling) (first : ℕ) (stretch : Stretch) → AreToldTo start first now
-        → stretch.first ≡ first → IsStretch before during after stretch → HasTold (finding_of stretch) now then
+    pub one_more_told : (start now then : Telling A) (first : ℕ) (stretch : Stretch) → AreToldTo start first now
+        → stretch.first ≡ first → IsStretch before during after stretch → HasTold Adds (finding_of stretch) now then
         → AreToldTo start (stretch.last + 1) then
     one_more_told start now then first stretch are begins is told = record {
       inside = omega (arith, is.below);
       stretches = are.stretches ++ stretch ∷ [];
       stretches_are = one_stretch_more 0 first are.stretches stretch are.stretches_are begins is;
-      told = told_more (of_stretches line are.stretches) (finding_of stretch) start now then are.told told
-          ∙ ap (then_told start) (sym (found_more are.stretches stretch));
+      told = rw (found_more are.stretches stretch) (told_more Adds none both (of_stretches line are.stretches)
+          (finding_of stretch) start now then are.told told);
     }
 
-    pub all_told : (start now : Telling) (first : ℕ) → AreToldTo start first now → first ≡ ADDRESS_LIMIT
-        → HasToldSome (AreFoundBetween before during after line) start now
+    pub all_told : (start now : Telling A) (first : ℕ) → AreToldTo start first now → first ≡ ADDRESS_LIMIT
+        → HasToldSome Adds (AreFoundBetween before during after line) start now
     all_told start now first are whole = record {
       findings = of_stretches line are.stretches;
       findings_are = record {

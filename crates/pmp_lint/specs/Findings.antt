@@ -1,11 +1,11 @@
 -- A finding, its row, and which findings are accepted.
-use Rattle.std.specs.Prelude.{ℕ, ◌^◌, ◌-◌, Bool, true, false, not, List, [], ◌∷◌, ◌++◌, Option, Some, None}
-use Rattle.std.specs.Prelude.{codes, count_by, decimal, if◌then◌else◌, is_some}
-use Rattle.std.specs.Fmt.{digits, format_spec, padded_integral}
-use Rattle.std.specs.List.{filter, flat_map}
+use Rattle.std.specs.Prelude.{ℕ, Bool, true, false, not, List, [], ◌∷◌, ◌++◌, Option, Some, None}
+use Rattle.std.specs.Prelude.{codes, count_by, if◌then◌else◌, is_some, map}
+use Rattle.std.specs.List.{filter}
 use Rattle.pmp_core.specs.declared.span.Span.{Span}
 use Rattle.pmp_text.specs.declared.policy.Modes.{Modes}
-use Rattle.pmp_text.specs.Reports.{fields_after, optional_text}
+use Rattle.pmp_text.specs.declared.lines.row_kind.RowKind.TheVariants as kind
+use Rattle.pmp_text.specs.Cells.{CellValue, Number, Address, Word, RowValue, nothing, number_value}
 use Rattle.pmp_lint.specs.Accepting.{are_named, is_accepted}
 use Rattle.pmp_lint.specs.declared.finding.Finding.{Finding}
 use Rattle.pmp_lint.specs.declared.lint.Lint.{Lint}
@@ -29,14 +29,14 @@ about_entry lint line entry bytes =
 
 -- ---- its row
 
--- a byte address in fourteen hexadecimal digits
-abbrev pub address_text : ℕ → List ℕ
-address_text address = padded_integral (format_spec 32 0 4 14 (2 ^ 64 - 1)) false [] (digits 16 false address)
+-- the first and the last byte, or nothing
+abbrev pub first_value : Option Span → CellValue
+first_value None = nothing
+first_value (Some span) = Address span.first
 
--- the first and the last byte, or two empty fields
-abbrev pub bytes_text : Option Span → List ℕ
-bytes_text None = codes ","
-bytes_text (Some span) = address_text span.first ++ (codes "," ++ address_text span.last)
+abbrev pub last_value : Option Span → CellValue
+last_value None = nothing
+last_value (Some span) = Address span.last
 
 abbrev pub letter_text : Bool → List ℕ → List ℕ
 letter_text has letter = if has then letter else []
@@ -46,11 +46,13 @@ modes_text modes =
     letter_text modes.machine (codes "M") ++ (letter_text modes.supervisor (codes "S") ++ letter_text modes.user (codes "U"))
 
 -- the lint's number and name, the line, the entry, the first and the last byte, and the modes
-abbrev pub finding_row : Finding → List ℕ
-finding_row finding =
-    decimal (lint_number finding.lint)
-    ++ fields_after (lint_name finding.lint ∷ decimal finding.line ∷ optional_text finding.entry
-    ∷ bytes_text finding.bytes ∷ modes_text finding.modes ∷ [])
+abbrev pub finding_row : Finding → RowValue
+finding_row finding = record {
+  kind = kind.Finding;
+  cells = Number (lint_number finding.lint) ∷ Word (lint_name finding.lint) ∷ Number finding.line
+      ∷ number_value finding.entry ∷ first_value finding.bytes ∷ last_value finding.bytes
+      ∷ Word (modes_text finding.modes) ∷ [];
+}
 
 -- ---- which are told
 
@@ -59,8 +61,8 @@ unfoldable pub is_told : (accepted : List ℕ) → Finding → Bool
 is_told accepted finding = not (is_accepted accepted (lint_name finding.lint) finding.line)
 
 -- a row for each finding that isn't accepted, in order
-abbrev pub told_rows : (accepted : List ℕ) → List Finding → List ℕ
-told_rows accepted findings = flat_map finding_row (filter (is_told accepted) findings)
+abbrev pub told_rows : (accepted : List ℕ) → List Finding → List RowValue
+told_rows accepted findings = map finding_row (filter (is_told accepted) findings)
 
 -- the number of these rows
 abbrev pub told_count : (accepted : List ℕ) → List Finding → ℕ

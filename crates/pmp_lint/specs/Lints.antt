@@ -1,5 +1,5 @@
--- The lints: number, name and remedy.
-use Rattle.std.specs.Prelude.{ℕ, List, [], ◌∷◌, Option, bytes_eq, codes, find}
+-- The lints: number, name, what they say, and remedy.
+use Rattle.std.specs.Prelude.{ℕ, List, [], ◌∷◌, ◌++◌, Option, bytes_eq, codes, find}
 use Rattle.pmp_lint.specs.declared.lint.Lint.{Lint}
 use Rattle.pmp_lint.specs.declared.lint.Lint.TheVariants.{RlbLeftOn, MmwpOff, OpenBeforeLocked, NeverDecides}
 use Rattle.pmp_lint.specs.declared.lint.Lint.TheVariants.{WriteAndExecute, OpenBetween, LateWrite}
@@ -29,6 +29,17 @@ lints =
 -- by its name
 unfoldable pub lint_named : (word : List ℕ) → Option Lint
 lint_named word = find (λ lint. bytes_eq (lint_name lint) word) lints
+
+-- what is so where it is found
+abbrev pub says_text : Lint → List ℕ
+says_text RlbLeftOn = codes "An entry is locked and RLB is set, so that no lock has an effect."
+says_text MmwpOff = codes "MML is set and MMWP isn't, so that M-mode may read and write what no entry matches."
+says_text OpenBeforeLocked = codes "An entry that isn't locked stands before one that is, and may still take its bytes."
+says_text NeverDecides = codes "An entry is on and decides no byte."
+says_text WriteAndExecute = codes "A mode may both write and execute the bytes."
+says_text OpenBetween = codes "After one write S-mode and U-mode may use bytes as they may neither before its publication "
+    ++ codes "nor after it."
+says_text LateWrite = codes "A write has no effect, since the entry is locked."
 
 -- how to fix it
 abbrev pub remedy_text : Lint → List ℕ

@@ -1,9 +1,10 @@
--- All findings of a script, and their text.
+-- All findings of a script, and their rows.
 use Rattle.std.specs.Prelude.{◌≡◌, ◌⊎◌, ℕ, List, ◌++◌, length, Ok, Err}
 use Rattle.std.specs.Option.{option_to_list}
 use Rattle.pmp_map.specs.declared.run.Run.{Run}
 use Rattle.pmp_map.specs.Runs.{AreRuns}
 use Rattle.pmp_text.specs.declared.script.LineFault.{LineFault}
+use Rattle.pmp_text.specs.Cells.{RowValue}
 use Rattle.pmp_text.specs.Contents.{ScriptContents}
 use Rattle.pmp_text.specs.Outcomes.{out_of_memory}
 use Rattle.pmp_text.specs.Scripts.{script_meaning}
@@ -33,14 +34,15 @@ pub record AreFindings (script : ScriptContents) (findings : List Finding) : Typ
   pub between_are : AreOpenBetween script (length script.batches) between
   pub all : findings ≡ of_locks script ++ of_runs script runs ++ between ++ late_writes script (length script.batches)
 
--- the script has these contents, and a row was appended for each finding that isn't accepted, and for no other; `told`
+-- the script has these contents, and a row was added for each finding that isn't accepted, and for no other; `told`
 -- counts them
-pub record LintSays (script : List ℕ) (accepted : List ℕ) (before after : List ℕ) (told : ℕ) : Type 0 where
+pub record LintSays {A : Type 0} (Adds : List RowValue → A → A → Type 0) (script : List ℕ) (accepted : List ℕ)
+    (before after : A) (told : ℕ) : Type 0 where
   pub contents : ScriptContents
   pub script_means : script_meaning script ≡ Ok contents
   pub findings : List Finding
   pub findings_are : AreFindings contents findings
-  pub rows : after ≡ before ++ told_rows accepted findings
+  pub added : Adds (told_rows accepted findings) before after
   pub counted : told ≡ told_count accepted findings
 
 -- the script's own fault, or memory ran out

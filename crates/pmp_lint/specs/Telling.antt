@@ -1,32 +1,31 @@
 -- What is told of findings, one after the other.
-use Rattle.std.specs.Prelude.{◌≡◌, ◌+◌, ◌++◌, ℕ, List}
+use Rattle.std.specs.Prelude.{◌≡◌, ◌+◌, ℕ, List}
+use Rattle.pmp_text.specs.Cells.{RowValue}
 use Rattle.pmp_lint.specs.declared.finding.Finding.{Finding}
 use Rattle.pmp_lint.specs.declared.told.Told.{Told}
 use Rattle.pmp_lint.specs.Findings.{told_count, told_rows}
 
--- which findings aren't told, the text so far, and how many rows it has
-pub record Telling : Type 0 where
+-- which findings aren't told, where the rows of the others went so far, and how many these are
+pub record Telling (A : Type 0) : Type 0 where
   pub accepted : List ℕ
-  pub text : List ℕ
+  pub rows : A
   pub count : ℕ
 
-abbrev pub so_far : List ℕ → (text : List ℕ) → (count : ℕ) → Telling
-so_far accepted text count = record { accepted = accepted; text = text; count = count }
+abbrev pub so_far : {A : Type 0} → List ℕ → (rows : A) → (count : ℕ) → Telling A
+so_far accepted rows count = record { accepted = accepted; rows = rows; count = count }
 
-abbrev pub telling : (text : List ℕ) → Told → Telling
-telling text told = so_far told.accepted.now text told.count
+abbrev pub telling : {A : Type 0} → (rows : A) → Told → Telling A
+telling rows told = so_far told.accepted.now rows told.count
 
--- once these findings are told too
-abbrev pub then_told : Telling → List Finding → Telling
-then_told it findings =
-    so_far it.accepted (it.text ++ told_rows it.accepted findings) (it.count + told_count it.accepted findings)
+module _ {A : Type 0} (Adds : List RowValue → A → A → Type 0) where
+  -- these findings were told
+  pub record HasTold (findings : List Finding) (before after : Telling A) : Type 0 where
+    pub same : after.accepted ≡ before.accepted
+    pub added : Adds (told_rows before.accepted findings) before.rows after.rows
+    pub counted : after.count ≡ before.count + told_count before.accepted findings
 
--- these findings were told
-abbrev pub HasTold : List Finding → (before after : Telling) → Type 0
-HasTold findings before after = after ≡ then_told before findings
-
--- such findings were told
-pub record HasToldSome (Are : List Finding → Type 0) (before after : Telling) : Type 0 where
-  pub findings : List Finding
-  pub findings_are : Are findings
-  pub has_told : HasTold findings before after
+  -- such findings were told
+  pub record HasToldSome (Are : List Finding → Type 0) (before after : Telling A) : Type 0 where
+    pub findings : List Finding
+    pub findings_are : Are findings
+    pub has_told : HasTold findings before after

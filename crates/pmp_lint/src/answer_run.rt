@@ -1,12 +1,12 @@
 //! The answers to one access at every moment of a script.
 
-ghost use Rattle.std.specs.Prelude.{◌≡◌, OnErr, OnOk};
-ghost use Rattle.std.specs.Io.{StartsWith};
+ghost use Rattle.std.specs.Prelude.{[], OnErr, OnOk};
+ghost use Rattle.pmp_text.specs.Cells.{AddsSome};
 ghost use Rattle.pmp_lint.specs.WhyRows.{HistorySays};
 
 use crate::because::is_same;
 use pmp_core::{Access, Decision};
-use pmp_text::{NoMemory, ReadScript, Sink, write_row};
+use pmp_text::{NoMemory, ReadScript, RowSink, add_answer};
 
 /// Consecutive moments at which an access is decided alike. A moment is a number of publications done.
 #[derive(Clone, Copy, Debug, PartialEq, Eq)]
@@ -16,14 +16,14 @@ pub struct AnswerRun {
     pub decision: Decision,
 }
 
-/// Appends the rows of all moments, or a part of them.
-fn write_runs<S: Sink>(
-    out: &mut S,
+/// Adds the rows of all moments, or a part of them.
+fn add_runs<R: RowSink>(
+    out: &mut R,
     script: &ReadScript<'_>,
     access: &Access,
 ) -> Result<(), NoMemory>
-    ensures ok { OnOk result (HistorySays script.now access.now (S.text out.old) (S.text out.new)) }
-    ensures err { OnErr result (StartsWith (S.text out.new) (S.text out.old)) }
+    ensures ok { OnOk result (HistorySays R.Adds script.now access.now out.old out.new) }
+    ensures err { OnErr result (AddsSome R.Adds out.old out.new) }
 {
     let mut file = script.start();
     let mut run = AnswerRun {
@@ -37,7 +37,7 @@ fn write_runs<S: Sink>(
         if is_same(&decision, &run.decision) {
             run.last = index + 1;
         } else {
-            write_row(out, run.first, access, &run.decision)?;
+            add_answer(out, run.first, access, &run.decision)?;
             run = AnswerRun {
                 first: index + 1,
                 last: index + 1,
@@ -45,23 +45,23 @@ fn write_runs<S: Sink>(
             };
         }
     }
-    write_row(out, run.first, access, &run.decision)
+    add_answer(out, run.first, access, &run.decision)
 }
 
-/// Appends a row for each longest series of moments at which the access is decided alike,
-/// `FIRST,ANSWER,FAULT,CAUSE,ENTRY` and LF: a report row whose number is the first of these moments.
-pub fn append_history<S: Sink>(
-    out: &mut S,
+/// Adds a row for each longest series of moments at which the access is decided alike, whose number is the first of these
+/// moments.
+pub fn add_history<R: RowSink>(
+    out: &mut R,
     script: &ReadScript<'_>,
     access: &Access,
 ) -> Result<(), NoMemory>
-    ensures ok { OnOk result (HistorySays script.now access.now (S.text out.old) (S.text out.new)) }
-    ensures err { OnErr result (S.text out.new ≡ S.text out.old) }
+    ensures ok { OnOk result (HistorySays R.Adds script.now access.now out.old out.new) }
+    ensures err { OnErr result (R.Adds [] out.old out.new) }
 {
     let before = out.position();
-    let written = write_runs(out, script, access);
-    if written.is_err() {
+    let added = add_runs(out, script, access);
+    if added.is_err() {
         out.go_back(before);
     }
-    written
+    added
 }

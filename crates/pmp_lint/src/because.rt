@@ -2,12 +2,12 @@
 
 ghost use Rattle.std.specs.Prelude.{◌≡◌, ◌<◌, ◌≤◌, IsTrue, length};
 ghost use Rattle.pmp_core.specs.Decision.{IsDecision};
-ghost use Rattle.pmp_text.specs.Reports.{entry_of, file_of_script};
+ghost use Rattle.pmp_text.specs.Reports.{file_of_script};
 ghost use Rattle.pmp_lint.specs.Why.{IsSince, IsWhy};
 
 use crate::decider::Decider;
-use pmp_core::{Access, Cause, Decision, RegFile};
-use pmp_text::ReadScript;
+use pmp_core::{Access, Decision, RegFile};
+use pmp_text::{ReadScript, deciding_entry};
 
 /// The reason why an access is decided as it is at a moment of a script.
 #[derive(Clone, Copy, Debug, PartialEq, Eq)]
@@ -58,16 +58,6 @@ fn decided_at(script: &ReadScript<'_>, done: u64, access: &Access) -> Decided
         file,
         decision,
         since,
-    }
-}
-
-/// Returns the deciding entry, if there is one.
-pub fn deciding_entry(cause: Cause) -> Option<u8>
-    ensures { result ≡ entry_of cause }
-{
-    match cause {
-        Cause::Rule(entry) | Cause::Split(entry) => Some(entry),
-        Cause::NoMatch => None,
     }
 }
 

@@ -1,13 +1,12 @@
 //! A finding, and its row.
 
-ghost use Rattle.std.specs.Prelude.{◌≡◌, Some};
-ghost use Rattle.pmp_text.specs.Reports.{optional_text};
-ghost use Rattle.pmp_lint.specs.Findings.{about_entry, about_script, bytes_text, finding_row, letter_text};
+ghost use Rattle.std.specs.Prelude.{◌≡◌, ◌∷◌, [], OnErr, OnOk};
+ghost use Rattle.pmp_text.specs.Cells.{cell_value};
+ghost use Rattle.pmp_lint.specs.Findings.{about_entry, about_script, finding_row, first_value, last_value, modes_text};
 
 use crate::lint::Lint;
 use pmp_core::Span;
-use pmp_text::Modes;
-use std::fmt;
+use pmp_text::{Cell, Modes, NoMemory, RowKind, RowSink};
 
 /// What was found in a script.
 #[derive(Clone, Copy, Debug, PartialEq, Eq)]
@@ -58,61 +57,48 @@ impl Finding {
     }
 }
 
-/// A number, or nothing.
-#[derive(Clone, Copy)]
-pub struct Number(pub Option<u64>);
-
-impl fmt::Display for Number {
-    ghost output = { λ number. Some (optional_text number.0) };
-
-    fn fmt<W: fmt::Write>(&self, f: &mut fmt::Formatter<W>) -> fmt::Result {
-        match self.0 {
-            Some(number) => write!(f, "{number}"),
-            None => Ok(()),
-        }
-    }
-}
-
-/// The fields of bytes, which are empty if there are none.
-#[derive(Clone, Copy)]
-pub struct Bytes(pub Option<Span>);
-
-impl fmt::Display for Bytes {
-    ghost output = { λ bytes. Some (bytes_text bytes.0) };
-
-    fn fmt<W: fmt::Write>(&self, f: &mut fmt::Formatter<W>) -> fmt::Result {
-        match self.0 {
-            Some(span) => {
-                let Span { first, last } = span;
-                write!(f, "{first:014x},{last:014x}")
-            }
-            None => write!(f, ","),
-        }
-    }
-}
-
-/// Returns the letter of a mode, or nothing.
-fn letter(has: bool, letter: &'static str) -> &'static str
-    ensures { result.now ≡ letter_text has letter.now }
+/// Returns the first and the last of some bytes, or nothing.
+pub fn end_cells<'a>(bytes: Option<Span>) -> (Cell<&'a [u8]>, Cell<&'a [u8]>)
+    ensures first { cell_value (λ text. text.now) result.0 ≡ first_value bytes }
+    ensures last { cell_value (λ text. text.now) result.1 ≡ last_value bytes }
 {
-    if has { letter } else { "" }
+    match bytes {
+        Some(span) => (Cell::Address(span.first), Cell::Address(span.last)),
+        None => (Cell::Nothing, Cell::Nothing),
+    }
 }
 
-impl fmt::Display for Finding {
-    ghost output = { λ finding. Some (finding_row finding) };
-
-    fn fmt<W: fmt::Write>(&self, f: &mut fmt::Formatter<W>) -> fmt::Result {
-        let number = self.lint.number();
-        let name = self.lint.name();
-        let line = self.line;
-        let entry = Number(self.entry.map(u64::from));
-        let bytes = Bytes(self.bytes);
-        let machine = letter(self.modes.machine, "M");
-        let supervisor = letter(self.modes.supervisor, "S");
-        let user = letter(self.modes.user, "U");
-        write!(
-            f,
-            "{number},{name},{line},{entry},{bytes},{machine}{supervisor}{user}\n"
-        )
+/// Returns a letter for each mode.
+fn modes_word(modes: Modes) -> &'static str
+    ensures { result.now ≡ modes_text modes }
+{
+    match (modes.machine, modes.supervisor, modes.user) {
+        (false, false, false) => "",
+        (false, false, true) => "U",
+        (false, true, false) => "S",
+        (false, true, true) => "SU",
+        (true, false, false) => "M",
+        (true, false, true) => "MU",
+        (true, true, false) => "MS",
+        (true, true, true) => "MSU",
     }
+}
+
+/// Adds a finding's row: the number and the name of its lint, the line, the entry, the first and the last byte, and the
+/// modes.
+pub fn add_finding<R: RowSink>(out: &mut R, finding: Finding) -> Result<(), NoMemory>
+    ensures ok { OnOk result (R.Adds (finding_row finding ∷ []) out.old out.new) }
+    ensures err { OnErr result (R.Adds [] out.old out.new) }
+{
+    let (first, last) = end_cells(finding.bytes);
+    let cells = [
+        Cell::Number(u64::from(finding.lint.number())),
+        Cell::Word(finding.lint.name()),
+        Cell::Number(finding.line),
+        Cell::number(finding.entry.map(u64::from)),
+        first,
+        last,
+        Cell::Word(modes_word(finding.modes)),
+    ];
+    out.add(RowKind::Finding, &cells)
 }

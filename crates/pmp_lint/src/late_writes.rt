@@ -1,7 +1,7 @@
 //! Writes that a frozen entry rejects.
 
 ghost use Rattle.std.specs.Prelude.{◌≡◌, ◌<◌, OnErr, OnOk, fold, length};
-ghost use Rattle.std.specs.Io.{StartsWith};
+ghost use Rattle.pmp_text.specs.Cells.{AddsSome};
 ghost use Rattle.std.specs.List.{flat_map};
 ghost use Rattle.pmp_core.specs.RegisterWrite.{step};
 ghost use Rattle.pmp_lint.specs.Events.{happenings_from};
@@ -14,7 +14,7 @@ use crate::lint::Lint;
 use crate::told::Told;
 use crate::trail::line_at;
 use pmp_core::{Event, RegFile};
-use pmp_text::{NoMemory, ReadScript, Sink};
+use pmp_text::{NoMemory, ReadScript, RowSink};
 
 /// An event, with the register file that it meets, and its line number.
 #[derive(Clone, Copy)]
@@ -52,13 +52,13 @@ impl<'a> Happening<'a> {
     }
 
     /// Tells a finding for each entry that rejects the write.
-    fn add_late_writes<S: Sink>(&self, out: &mut S, told: &mut Told<'_>) -> Result<(), NoMemory>
-        ensures ok { OnOk result (HasTold (late_writes_of (record {
+    fn add_late_writes<R: RowSink>(&self, out: &mut R, told: &mut Told<'_>) -> Result<(), NoMemory>
+        ensures ok { OnOk result (HasTold R.Adds (late_writes_of (record {
           before = self.now.before.now;
           event = self.now.event;
           line = self.now.line;
-        })) (telling (S.text out.old) told.old) (telling (S.text out.new) told.new)) }
-        ensures err { OnErr result (StartsWith (S.text out.new) (S.text out.old)) }
+        })) (telling out.old told.old) (telling out.new told.new)) }
+        ensures err { OnErr result (AddsSome R.Adds out.old out.new) }
     {
         for entry in 0..self.before.entries() {
             told.add(out, self.late_write(entry))?;
@@ -68,18 +68,18 @@ impl<'a> Happening<'a> {
 }
 
 /// Tells the findings for these events, which are in these lines, and executes them.
-fn add_of_publication<S: Sink>(
-    out: &mut S,
+fn add_of_publication<R: RowSink>(
+    out: &mut R,
     told: &mut Told<'_>,
     file: &mut RegFile,
     events: &[Event],
     lines: &[u64],
 ) -> Result<(), NoMemory>
-    ensures ok { OnOk result (HasTold
+    ensures ok { OnOk result (HasTold R.Adds
         (flat_map late_writes_of (happenings_from 0 file.old events.now lines.now))
-        (telling (S.text out.old) told.old) (telling (S.text out.new) told.new)) }
+        (telling out.old told.old) (telling out.new told.new)) }
     ensures file { OnOk result (file.new ≡ fold step file.old events.now) }
-    ensures err { OnErr result (StartsWith (S.text out.new) (S.text out.old)) }
+    ensures err { OnErr result (AddsSome R.Adds out.old out.new) }
 {
     for (place, event) in events.iter().enumerate() {
         let before = *file;
@@ -95,14 +95,14 @@ fn add_of_publication<S: Sink>(
 }
 
 /// Tells a finding for each write of the script, and each entry that rejects it because it is frozen.
-pub fn add_late_writes<S: Sink>(
-    out: &mut S,
+pub fn add_late_writes<R: RowSink>(
+    out: &mut R,
     told: &mut Told<'_>,
     script: &ReadScript<'_>,
 ) -> Result<(), NoMemory>
-    ensures ok { OnOk result (HasTold (late_writes script.now (length script.now.batches))
-        (telling (S.text out.old) told.old) (telling (S.text out.new) told.new)) }
-    ensures err { OnErr result (StartsWith (S.text out.new) (S.text out.old)) }
+    ensures ok { OnOk result (HasTold R.Adds (late_writes script.now (length script.now.batches))
+        (telling out.old told.old) (telling out.new told.new)) }
+    ensures err { OnErr result (AddsSome R.Adds out.old out.new) }
 {
     let mut file = script.start();
     for index in 0..script.batches() {

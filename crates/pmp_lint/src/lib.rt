@@ -22,10 +22,10 @@ mod trail;
 mod write_and_execute;
 
 pub use accepted::{NameAt, is_accepted};
-pub use answer_run::{AnswerRun, append_history};
+pub use answer_run::{AnswerRun, add_history};
 pub use because::{Because, why};
-pub use because_row::append_why;
+pub use because_row::add_why;
 pub use decider::{Decider, RuleBits};
 pub use finding::Finding;
 pub use lint::Lint;
-pub use report::append_lint;
+pub use report::add_lint;

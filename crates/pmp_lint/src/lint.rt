@@ -2,7 +2,7 @@
 
 ghost use Rattle.std.specs.Prelude.{◌≡◌};
 ghost use Rattle.pmp_lint.specs.Findings.{are_lints};
-ghost use Rattle.pmp_lint.specs.Lints.{lint_named, lint_name, lint_number, remedy_text};
+ghost use Rattle.pmp_lint.specs.Lints.{lint_named, lint_name, lint_number, remedy_text, says_text};
 
 use crate::accepted::NameAt;
 
@@ -65,6 +65,24 @@ impl Lint {
             Lint::WriteAndExecute => "write-and-execute",
             Lint::OpenBetween => "open-between",
             Lint::LateWrite => "late-write",
+        }
+    }
+
+    /// Returns what is so where it is found, as a sentence.
+    pub fn says(self) -> &'static str
+        ensures { result.now ≡ says_text self }
+    {
+        match self {
+            Lint::RlbLeftOn => "An entry is locked and RLB is set, so that no lock has an effect.",
+            Lint::MmwpOff =>
+                "MML is set and MMWP isn't, so that M-mode may read and write what no entry matches.",
+            Lint::OpenBeforeLocked =>
+                "An entry that isn't locked stands before one that is, and may still take its bytes.",
+            Lint::NeverDecides => "An entry is on and decides no byte.",
+            Lint::WriteAndExecute => "A mode may both write and execute the bytes.",
+            Lint::OpenBetween =>
+                "After one write S-mode and U-mode may use bytes as they may neither before its publication nor after it.",
+            Lint::LateWrite => "A write has no effect, since the entry is locked.",
         }
     }
 

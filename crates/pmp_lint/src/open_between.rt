@@ -1,7 +1,7 @@
 //! Bytes that single writes open to S and U for a while.
 
 ghost use Rattle.std.specs.Prelude.{◌≡◌, OnErr, OnOk, fold, length};
-ghost use Rattle.std.specs.Io.{StartsWith};
+ghost use Rattle.pmp_text.specs.Cells.{AddsSome};
 ghost use Rattle.pmp_core.specs.declared.access.TheConstants.{ADDRESS_LIMIT};
 ghost use Rattle.pmp_core.specs.RegisterWrite.{step};
 ghost use Rattle.pmp_lint.specs.Events.{happenings_from};
@@ -15,7 +15,7 @@ use crate::stretch::{Between, Stretch};
 use crate::told::Told;
 use crate::trail::line_at;
 use pmp_core::{ADDRESS_LIMIT, Event, RegFile, Span};
-use pmp_text::{Modes, NoMemory, ReadScript, Sink};
+use pmp_text::{Modes, NoMemory, ReadScript, RowSink};
 
 impl Stretch {
     /// Returns a finding, if its bytes are opened by the write in this line.
@@ -42,16 +42,16 @@ impl Stretch {
 
 impl<'a> Between<'a> {
     /// Tells a finding for each range that the write in this line opens.
-    fn add_opened<S: Sink>(
+    fn add_opened<R: RowSink>(
         &self,
-        out: &mut S,
+        out: &mut R,
         told: &mut Told<'_>,
         line: u64,
     ) -> Result<(), NoMemory>
-        ensures ok { OnOk result (HasToldSome
+        ensures ok { OnOk result (HasToldSome R.Adds
             (AreFoundBetween self.now.before.now self.now.during.now self.now.after.now line)
-            (telling (S.text out.old) told.old) (telling (S.text out.new) told.new)) }
-        ensures err { OnErr result (StartsWith (S.text out.new) (S.text out.old)) }
+            (telling out.old told.old) (telling out.new told.new)) }
+        ensures err { OnErr result (AddsSome R.Adds out.old out.new) }
     {
         let mut first = 0;
         while first < ADDRESS_LIMIT {
@@ -64,18 +64,18 @@ impl<'a> Between<'a> {
 }
 
 /// Tells the findings for these events, which are a publication and are in these lines, and executes them.
-fn add_of_publication<S: Sink>(
-    out: &mut S,
+fn add_of_publication<R: RowSink>(
+    out: &mut R,
     told: &mut Told<'_>,
     file: &mut RegFile,
     events: &[Event],
     lines: &[u64],
 ) -> Result<(), NoMemory>
-    ensures ok { OnOk result (HasToldSome (AreOfEvents file.old (fold step file.old events.now)
+    ensures ok { OnOk result (HasToldSome R.Adds (AreOfEvents file.old (fold step file.old events.now)
         (happenings_from 0 file.old events.now lines.now))
-        (telling (S.text out.old) told.old) (telling (S.text out.new) told.new)) }
+        (telling out.old told.old) (telling out.new told.new)) }
     ensures file { OnOk result (file.new ≡ fold step file.old events.now) }
-    ensures err { OnErr result (StartsWith (S.text out.new) (S.text out.old)) }
+    ensures err { OnErr result (AddsSome R.Adds out.old out.new) }
 {
     let before = *file;
     let mut after = *file;
@@ -94,14 +94,14 @@ fn add_of_publication<S: Sink>(
 
 /// Tells a finding for each write of the script, and each range of bytes that it opens to S and U until its publication
 /// closes them again.
-pub fn add_open_between<S: Sink>(
-    out: &mut S,
+pub fn add_open_between<R: RowSink>(
+    out: &mut R,
     told: &mut Told<'_>,
     script: &ReadScript<'_>,
 ) -> Result<(), NoMemory>
-    ensures ok { OnOk result (HasToldSome (AreOpenBetween script.now (length script.now.batches))
-        (telling (S.text out.old) told.old) (telling (S.text out.new) told.new)) }
-    ensures err { OnErr result (StartsWith (S.text out.new) (S.text out.old)) }
+    ensures ok { OnOk result (HasToldSome R.Adds (AreOpenBetween script.now (length script.now.batches))
+        (telling out.old told.old) (telling out.new told.new)) }
+    ensures err { OnErr result (AddsSome R.Adds out.old out.new) }
 {
     let mut file = script.start();
     for index in 0..script.batches() {

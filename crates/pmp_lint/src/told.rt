@@ -1,12 +1,12 @@
 //! The findings that are told: each that isn't accepted, by its row.
 
-ghost use Rattle.std.specs.Prelude.{◌≡◌, OnErr, OnOk};
+ghost use Rattle.std.specs.Prelude.{[], OnErr, OnOk};
 ghost use Rattle.std.specs.Option.{option_to_list};
 ghost use Rattle.pmp_lint.specs.Telling.{HasTold, telling};
 
 use crate::accepted::is_accepted;
-use crate::finding::Finding;
-use pmp_text::{NoMemory, Sink, append_line};
+use crate::finding::{Finding, add_finding};
+use pmp_text::{NoMemory, RowSink};
 
 /// Which findings aren't told, and how many rows the others have so far.
 #[derive(Clone, Copy)]
@@ -19,17 +19,17 @@ pub struct Told<'a> {
 impl<'a> Told<'a> {
     /// Appends a finding's row and counts it, if there is a finding and it isn't accepted; or nothing.
     #[tactic(auto, unfolding(crate::specs::Findings::is_told))]
-    pub fn add<S: Sink>(&mut self, out: &mut S, finding: Option<Finding>) -> Result<(), NoMemory>
-        ensures ok { OnOk result (HasTold (option_to_list finding)
-            (telling (S.text out.old) self.old) (telling (S.text out.new) self.new)) }
-        ensures err { OnErr result (S.text out.new ≡ S.text out.old) }
+    pub fn add<R: RowSink>(&mut self, out: &mut R, finding: Option<Finding>) -> Result<(), NoMemory>
+        ensures ok { OnOk result (HasTold R.Adds (option_to_list finding)
+            (telling out.old self.old) (telling out.new self.new)) }
+        ensures err { OnErr result (R.Adds [] out.old out.new) }
     {
         let Some(finding) = finding else {
             return Ok(());
         };
         if !is_accepted(self.accepted, finding.lint.name().as_bytes(), finding.line) {
             let count = self.count.checked_add(1).ok_or(NoMemory)?;
-            append_line(out, finding)?;
+            add_finding(out, finding)?;
             self.count = count;
         }
         Ok(())

@@ -1,7 +1,7 @@
 //! Bytes that a mode may both write and execute.
 
 ghost use Rattle.std.specs.Prelude.{◌≡◌, ◌<◌, IfSome, OnErr, OnOk, length};
-ghost use Rattle.std.specs.Io.{StartsWith};
+ghost use Rattle.pmp_text.specs.Cells.{AddsSome};
 ghost use Rattle.pmp_core.specs.Rights.{Rights, perms_of};
 ghost use Rattle.pmp_map.specs.Runs.{HasOwnersBelow};
 ghost use Rattle.pmp_lint.specs.Telling.{HasTold, telling};
@@ -15,7 +15,7 @@ use crate::subject::Subject;
 use crate::told::Told;
 use pmp_core::{Kind, Perms, Registers, Span};
 use pmp_map::{ModeRights, Run};
-use pmp_text::{Modes, NoMemory, Sink};
+use pmp_text::{Modes, NoMemory, RowSink};
 
 fn writes_and_executes(perms: Perms) -> bool
     ensures { (rights : Rights) → perms ≡ perms_of rights → result ≡ writes_and_executes rights }
@@ -67,16 +67,16 @@ impl<'a> Ended<'a> {
     }
 
     /// Tells a finding for each of these runs, which are the file's, that a mode may both write and execute.
-    pub fn add_write_and_execute<S: Sink>(
+    pub fn add_write_and_execute<R: RowSink>(
         &self,
-        out: &mut S,
+        out: &mut R,
         told: &mut Told<'_>,
         runs: &[Run],
     ) -> Result<(), NoMemory>
         requires { HasOwnersBelow (length self.now.file.now.entries) runs.now }
-        ensures ok { OnOk result (HasTold (written_and_executed self.now.script.now runs.now)
-            (telling (S.text out.old) told.old) (telling (S.text out.new) told.new)) }
-        ensures err { OnErr result (StartsWith (S.text out.new) (S.text out.old)) }
+        ensures ok { OnOk result (HasTold R.Adds (written_and_executed self.now.script.now runs.now)
+            (telling out.old told.old) (telling out.new told.new)) }
+        ensures err { OnErr result (AddsSome R.Adds out.old out.new) }
     {
         for run in runs {
             told.add(out, self.write_and_execute(run))?;

@@ -1,22 +1,14 @@
--- Names of ranges of addresses, and which of them a range overlaps.
-use Rattle.std.specs.Prelude.{ℕ, zero, suc, ◌+◌, ◌-◌, ◌^◌, List, [], ◌∷◌, ◌++◌, length, take, drop, Bool, true, false, not, ◌&&◌, ◌||◌}
-use Rattle.std.specs.Prelude.{◌==◌, nat_le, max, min, Option, Some, None, Result, Ok, Err, codes, bytes_eq, position, if◌then◌else◌}
+-- Names of ranges of addresses, as a file gives them.
+use Rattle.std.specs.Prelude.{ℕ, ◌+◌, ◌-◌, ◌^◌, List, [], ◌∷◌, ◌++◌, length, take, drop, Bool, false, not, ◌&&◌, ◌||◌}
+use Rattle.std.specs.Prelude.{◌==◌, nat_le, min, Option, Some, None, Result, Ok, Err, codes, bytes_eq, position, if◌then◌else◌}
 use Rattle.std.specs.Char.{is_ascii_digit}
-use Rattle.std.specs.Fmt.{digits}
-use Rattle.std.specs.List.{before_first, flat_map, list_all}
+use Rattle.std.specs.List.{list_all}
 use Rattle.pmp_text.specs.Lines.{lines}
-use Rattle.pmp_text.specs.Numbers.{numeral, word_number}
-use Rattle.pmp_text.specs.declared.lines.hexadecimal.TheConstants.{ADDRESS_DIGITS}
+use Rattle.pmp_text.specs.Numbers.{word_number}
+use Rattle.pmp_text.specs.MetNames.{Named}
 use Rattle.pmp_text.specs.declared.refusal.Refusal.TheVariants.{BadHeader, BadRow}
 use Rattle.pmp_names.specs.declared.address_name.TheConstants.{NAME_BYTES}
 use Rattle.pmp_names.specs.declared.address_names.NamesFault.{NamesFault}
-use Rattle.pmp_names.specs.declared.named_rows.Columns.{Columns}
-
--- the bytes from first to last have this name
-pub record Named : Type 0 where
-  pub first : ℕ
-  pub last : ℕ
-  pub name : List ℕ
 
 -- ---- a file of names: the line `first,last,name`, then a line of these three fields for each name
 
@@ -95,56 +87,3 @@ names_of_lines (header ∷ rows) = if bytes_eq header (codes "first,last,name") 
 -- the names of a text, or its first fault
 abbrev pub names_said : (text : List ℕ) → Result (List Named) NamesFault
 names_said text = names_of_lines (lines text)
-
--- ---- which names a range overlaps
-
-abbrev pub meets : Named → (first last : ℕ) → Bool
-meets one first last = nat_le one.first last && nat_le first one.last
-
-abbrev pub is_whole : Named → (first last : ℕ) → Bool
-is_whole one first last = nat_le first one.first && nat_le one.last last
-
--- where a part of a named range begins in it
-abbrev pub offset_text : (offset : ℕ) → List ℕ
-offset_text offset = codes "+0x" ++ digits 16 false offset
-
--- the name, and if only a part is overlapped, where that begins
-abbrev pub met_name : Named → (first last : ℕ) → List ℕ
-met_name one first last = one.name
-    ++ (if is_whole one first last then [] else offset_text (max first one.first - one.first))
-
-abbrev pub met_from : (is_first : Bool) → List Named → (first last : ℕ) → List ℕ
-met_from is_first [] first last = []
-met_from is_first (one ∷ more) first last =
-    if meets one first last
-    then (if is_first then [] else codes " ") ++ (met_name one first last ++ met_from false more first last)
-    else met_from is_first more first last
-
--- all names that a range overlaps, in order, with blanks between them
-abbrev pub met_names : List Named → (first last : ℕ) → List ℕ
-met_names names first last = met_from true names first last
-
--- ---- rows with names
-
--- the field of a row with this index, from 0
-abbrev pub field_at : (separator index : ℕ) → (row : List ℕ) → Option (List ℕ)
-field_at separator zero row = Some (before_first (is_separator separator) row)
-field_at separator (suc index) row =
-    elim (split_once separator row) [ None ↦ None | Some parts ↦ field_at separator index parts.1 ]
-
--- a byte address as rows write it
-abbrev pub address_at : (index : ℕ) → (row : List ℕ) → Option ℕ
-address_at index row = elim (field_at 44 index row) [ None ↦ None | Some field ↦ numeral 16 ADDRESS_DIGITS field ]
-
-abbrev pub names_between : List Named → (first last : Option ℕ) → List ℕ
-names_between names (Some first) (Some last) = met_names names first last
-names_between names first last = []
-
--- a row with names; the fields with these numbers are its range's first and last byte address
-abbrev pub with_names : List Named → Columns → (row : List ℕ) → List ℕ
-with_names names columns row =
-    row ++ (codes "," ++ (names_between names (address_at columns.first row) (address_at columns.last row) ++ codes "\n"))
-
--- each row of a text, followed by the names that its range overlaps
-abbrev pub rows_with_names : List Named → Columns → (text : List ℕ) → List ℕ
-rows_with_names names columns text = flat_map (with_names names columns) (lines text)

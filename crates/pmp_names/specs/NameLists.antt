@@ -1,13 +1,10 @@
 -- Names of addresses as the program keeps them.
 use Rattle.std.specs.Prelude.{◌≡◌, ℕ, List, [], ◌∷◌, ◌++◌, map, Option, None, Result, Ok, Err}
 use Rattle.pmp_text.specs.declared.refusal.Refusal.TheVariants.{BadRow, Memory}
-use Rattle.pmp_names.specs.declared.address_name.AddressName.{AddressName}
+use Rattle.pmp_text.specs.declared.address_name.AddressName.{AddressName}
 use Rattle.pmp_names.specs.declared.address_names.NamesFault.{NamesFault}
-use Rattle.pmp_names.specs.AddressNames.{Fault, Named, name_said}
-
--- one of them, in plain values
-abbrev pub named : AddressName → Named
-named one = record { first = one.first; last = one.last; name = one.name.now }
+use Rattle.pmp_text.specs.MetNames.{Named, named}
+use Rattle.pmp_names.specs.AddressNames.{Fault, name_said}
 
 abbrev pub said_so : Result AddressName (Option ℕ) → Result Named Fault
 said_so (Ok one) = Ok (named one)

@@ -2,7 +2,7 @@
 use Rattle.std.specs.Prelude.{ℕ, ◌+◌, ◌^◌, List, [], ◌∷◌, take, drop, Bool, ◌==◌, nat_lt, Option, Some, None, position}
 use Rattle.std.specs.Prelude.{bytes_eq, if◌then◌else◌, is_some, option_map}
 use Rattle.pmp_text.specs.Numbers.{word_number}
-use Rattle.pmp_names.specs.AddressNames.{Named}
+use Rattle.pmp_text.specs.MetNames.{Named}
 
 abbrev pub is_plus : (byte : ℕ) → Bool
 is_plus byte = byte == 43

@@ -3,7 +3,7 @@ use Rattle.std.specs.Prelude.{ℕ, List, [], ◌∷◌, ◌++◌, Bool, true, fa
 use Rattle.std.specs.Prelude.{bytes_eq, if◌then◌else◌}
 use Rattle.std.specs.Fmt.{digits}
 use Rattle.std.specs.List.{flat_map, onto_first}
-use Rattle.pmp_names.specs.AddressNames.{Named}
+use Rattle.pmp_text.specs.MetNames.{Named}
 use Rattle.pmp_names.specs.NamedAddresses.{end_said, place_said}
 use Rattle.pmp_names.specs.declared.numbered_text.Place.{Place}
 use Rattle.pmp_names.specs.declared.numbered_text.Place.TheVariants.{Beginning, Plain, Quoted, Closed}

@@ -1,4 +1,4 @@
-//! A name of a range of addresses.
+//! The names that ranges of addresses can have, and a line that gives one.
 
 ghost use Rattle.std.specs.Prelude.{◌≡◌, option_map, position};
 ghost use Rattle.std.specs.List.{list_all};
@@ -6,20 +6,10 @@ ghost use Rattle.pmp_names.specs.AddressNames.{begins_as_name, is_name, is_name_
 ghost use Rattle.pmp_names.specs.AddressNames.{name_said, split_comma, split_once};
 ghost use Rattle.pmp_names.specs.NameLists.{said_so};
 
-use pmp_text::read_word_number;
+use pmp_text::{AddressName, read_word_number};
 
 /// The greatest length of a name in bytes.
 pub const NAME_BYTES: usize = 64;
-
-/// A name of the bytes from `first` to `last`.
-#[derive(Clone, Copy)]
-pub struct AddressName<'a> {
-    /// The address of the first byte.
-    pub first: u64,
-    /// The address of the last byte.
-    pub last: u64,
-    pub name: &'a [u8],
-}
 
 fn is_name_byte(byte: u8) -> bool
     ensures { result ≡ is_name_byte byte }
@@ -53,7 +43,7 @@ fn first_at(line: &[u8], separator: u8) -> Option<usize>
 }
 
 /// Returns the text before the first separator, and the text after it.
-pub fn split_once(line: &[u8], separator: u8) -> Option<(&[u8], &[u8])>
+fn split_once(line: &[u8], separator: u8) -> Option<(&[u8], &[u8])>
     ensures { option_map (λ parts. (parts.0.now, parts.1.now)) result ≡ split_once separator line.now }
 {
     let end = first_at(line, separator)?;
@@ -67,31 +57,29 @@ pub fn split_comma(line: &[u8]) -> Option<(&[u8], &[u8])>
     split_once(line, b',')
 }
 
-impl<'a> AddressName<'a> {
-    /// Returns the name in a line, or which of its fields is at fault; none if it doesn't have three.
-    pub fn read(line: &'a [u8]) -> Result<AddressName<'a>, Option<usize>>
-        ensures { said_so result ≡ name_said line.now }
-    {
-        let (first, rest) = split_comma(line).ok_or(None)?;
-        let (last, name) = split_comma(rest).ok_or(None)?;
-        AddressName::of_fields(read_word_number(first), read_word_number(last), name)
-    }
+/// Returns the name in a line, or which of its fields is at fault; none if it doesn't have three.
+pub fn read_name<'a>(line: &'a [u8]) -> Result<AddressName<'a>, Option<usize>>
+    ensures { said_so result ≡ name_said line.now }
+{
+    let (first, rest) = split_comma(line).ok_or(None)?;
+    let (last, name) = split_comma(rest).ok_or(None)?;
+    name_of_fields(read_word_number(first), read_word_number(last), name)
+}
 
-    fn of_fields(
-        first: Option<u64>,
-        last: Option<u64>,
-        name: &'a [u8],
-    ) -> Result<AddressName<'a>, Option<usize>>
-        ensures { said_so result ≡ name_of_fields first last name.now }
-    {
-        let first = first.ok_or(Some(0))?;
-        let last = last.ok_or(Some(1))?;
-        if last < first {
-            return Err(Some(1));
-        }
-        if !is_name(name) {
-            return Err(Some(2));
-        }
-        Ok(AddressName { first, last, name })
+fn name_of_fields<'a>(
+    first: Option<u64>,
+    last: Option<u64>,
+    name: &'a [u8],
+) -> Result<AddressName<'a>, Option<usize>>
+    ensures { said_so result ≡ name_of_fields first last name.now }
+{
+    let first = first.ok_or(Some(0))?;
+    let last = last.ok_or(Some(1))?;
+    if last < first {
+        return Err(Some(1));
     }
+    if !is_name(name) {
+        return Err(Some(2));
+    }
+    Ok(AddressName { first, last, name })
 }

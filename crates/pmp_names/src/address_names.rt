@@ -3,10 +3,11 @@
 ghost use Rattle.std.specs.Prelude.{◌≡◌, ◌⊎◌, Err, IfErr, IfOk, Ok, OnOk, map};
 ghost use Rattle.pmp_text.specs.Lines.{lines};
 ghost use Rattle.pmp_names.specs.AddressNames.{names_from, names_said};
-ghost use Rattle.pmp_names.specs.NameLists.{AddsName, IsFaultOf, named, no_memory};
+ghost use Rattle.pmp_names.specs.NameLists.{AddsName, IsFaultOf, no_memory};
+ghost use Rattle.pmp_text.specs.MetNames.{named};
 
-use crate::address_name::AddressName;
-use pmp_text::{Refusal, split_first_line};
+use crate::address_name::read_name;
+use pmp_text::{AddressName, Refusal, split_first_line};
 use std::alloc::{AllocError, Global};
 
 /// The reason why a text gives no names: `BadHeader`, `BadRow` or `Memory`.
@@ -65,7 +66,7 @@ fn add<'a>(names: &mut Vec<AddressName<'a>>, line: &'a [u8], row: u64) -> Result
     ensures ok { OnOk result (AddsName line.now names.old.items names.new.items) }
     ensures err { IfErr result (λ fault. (fault ≡ no_memory) ⊎ IsFaultOf line.now row fault) }
 {
-    match AddressName::read(line) {
+    match read_name(line) {
         Ok(name) => Ok(names.push(name).map_err(|_| AllocError)?),
         Err(field) => Err(NamesFault {
             refusal: Refusal::BadRow,

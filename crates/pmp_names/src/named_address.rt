@@ -2,10 +2,9 @@
 
 ghost use Rattle.std.specs.Prelude.{◌≡◌, map, option_map, position};
 ghost use Rattle.pmp_names.specs.NamedAddresses.{address_said, end_said, find_name, is_plus, place_said};
-ghost use Rattle.pmp_names.specs.NameLists.{named};
+ghost use Rattle.pmp_text.specs.MetNames.{named};
 
-use crate::address_name::AddressName;
-use pmp_text::read_word_number;
+use pmp_text::{AddressName, read_word_number};
 
 fn plus_at(word: &[u8]) -> Option<usize>
     ensures { result ≡ position is_plus word.now }

@@ -1,15 +1,13 @@
 //! Texts of fields, with numbers instead of names.
 
 ghost use Rattle.std.specs.Prelude.{◌≡◌, ◌++◌, ◌∷◌, ◌<◌, IfOk, IfSome, List, OnOk, length, map, ℕ};
-ghost use Rattle.pmp_names.specs.AddressNames.{Named};
 ghost use Rattle.pmp_names.specs.NumberedTexts.{after, fields_of, is_quoted, numbered_field, numbered_fields, numbered_row};
 ghost use Rattle.pmp_names.specs.NumberedTexts.{numbered_text, outside, parts_of, said_below};
 ghost use Rattle.pmp_names.specs.Parts.{end_at, rest_of};
-ghost use Rattle.pmp_names.specs.NameLists.{named};
+ghost use Rattle.pmp_text.specs.MetNames.{Named, named};
 
-use crate::address_name::AddressName;
 use crate::named_address::{read_end, read_place};
-use pmp_text::append_line;
+use pmp_text::{AddressName, append_line};
 use std::alloc::{AllocError, Global};
 
 /// Where a byte stands, by the quotes before it. Only quotes at the beginning of a field open a quoted part.

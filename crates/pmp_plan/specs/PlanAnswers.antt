@@ -1,10 +1,8 @@
--- What is written for a plan's text, and why nothing is.
-use Rattle.std.specs.Prelude.{◌≡◌, ◌⊎◌, ℕ, ◌<◌, ◌≤◌, List, length, Option, Ok, Err, map}
-use Rattle.std.specs.Io.KnownBytes.{Appends, Keeps}
+-- The writes for a plan's text, and why there are none.
+use Rattle.std.specs.Prelude.{◌≡◌, ◌⊎◌, ℕ, ◌<◌, ◌≤◌, List, length, Ok, Err, map}
 use Rattle.std.specs.List.{AllPairs}
 use Rattle.pmp_core.specs.declared.event.Event.{Event}
 use Rattle.pmp_core.specs.RegisterFile.{RegisterFile}
-use Rattle.pmp_text.specs.Bytes.{AppendsBeginning}
 use Rattle.pmp_text.specs.declared.trace.RowFault.{RowFault}
 use Rattle.pmp_text.specs.declared.refusal.Refusal.TheVariants.{TooLong}
 use Rattle.pmp_text.specs.declared.script.reader.TheConstants.{MAX_SCRIPT}
@@ -48,16 +46,10 @@ module _ (start : RegisterFile) (aim : Aim) (form : Form) (plan : List ℕ) wher
     pub are : plan_said plan ≡ Ok (map said rows)
     pub told : IsTold start aim form rows text
 
-  module _ (before after : Option (List ℕ)) where
-    -- it was written
-    abbrev pub PlanSays : Type 0
-    PlanSays = (text : List ℕ) × Tells text × Appends before after text
-
-    -- why nothing is written, or only a part if the output fails
-    pub data PlanFails : AnswerFault → Type 0 where
-      long : MAX_SCRIPT < length plan → Keeps before after → PlanFails (answer.Text too_long)
-      no_plan : (fault : RowFault) → (fault ≡ no_memory_for_rows) ⊎ (plan_said plan ≡ Err fault)
-          → Keeps before after → PlanFails (answer.Text fault)
-      no_writes : (rows : List PlanRow) (fault : PlanFault) → plan_said plan ≡ Ok (map said rows)
-          → RefusesFrom start aim rows fault → Keeps before after → PlanFails (answer.Plan fault)
-      no_output : (text : List ℕ) → Tells text → AppendsBeginning before after text → PlanFails answer.Output
+-- why there are no writes for it
+pub data PlanFails (start : RegisterFile) (aim : Aim) (plan : List ℕ) : AnswerFault → Type 0 where
+  long : MAX_SCRIPT < length plan → PlanFails start aim plan (answer.Text too_long)
+  no_plan : (fault : RowFault) → (fault ≡ no_memory_for_rows) ⊎ (plan_said plan ≡ Err fault)
+      → PlanFails start aim plan (answer.Text fault)
+  no_writes : (rows : List PlanRow) (fault : PlanFault) → plan_said plan ≡ Ok (map said rows)
+      → RefusesFrom start aim rows fault → PlanFails start aim plan (answer.Plan fault)

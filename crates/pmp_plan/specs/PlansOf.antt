@@ -1,9 +1,7 @@
 -- The plan that a script's registers meet.
-use Rattle.std.specs.Prelude.{◌≡◌, ◌⊎◌, ℕ, List, Option, Ok, Err, map}
-use Rattle.std.specs.Io.KnownBytes.{Appends, Keeps}
+use Rattle.std.specs.Prelude.{◌≡◌, ◌⊎◌, ℕ, List, Ok, Err, map}
 use Rattle.std.specs.List.{AllPairs}
 use Rattle.pmp_core.specs.RegisterFile.{RegisterFile}
-use Rattle.pmp_text.specs.Bytes.{AppendsBeginning}
 use Rattle.pmp_text.specs.Contents.{ScriptContents}
 use Rattle.pmp_text.specs.Outcomes.{out_of_memory}
 use Rattle.pmp_text.specs.Reports.{file_behind}
@@ -47,13 +45,3 @@ pub record IsPlanOfScript (script text : List ℕ) : Type 0 where
 -- there are no such registers, or memory ran out
 abbrev pub HasNoPlan : (script : List ℕ) → AnswerFault → Type 0
 HasNoPlan script fault = LeavesNone script fault ⊎ (fault ≡ answer.Plan Memory)
-
-module _ (script : List ℕ) (before after : Option (List ℕ)) where
-  abbrev pub PlanOfSays : Type 0
-  PlanOfSays = (text : List ℕ) × IsPlanOfScript script text × Appends before after text
-
-  -- why nothing is written, or only a part if the output fails
-  pub data PlanOfFails : AnswerFault → Type 0 where
-    no_plan : (fault : AnswerFault) → HasNoPlan script fault → Keeps before after → PlanOfFails fault
-    no_output : (text : List ℕ) → IsPlanOfScript script text → AppendsBeginning before after text
-        → PlanOfFails answer.Output

@@ -9,8 +9,7 @@ use Rattle.pmp_map.specs.Answers.{rights_by}
 use Rattle.pmp_map.specs.OpenBytes.{holds}
 use Rattle.pmp_map.specs.RightsRuns.{HasRights}
 use Rattle.pmp_map.specs.declared.mode_rights.ModeRights.{ModeRights}
-use Rattle.pmp_text.specs.RunLines.{owner_text}
-use Rattle.pmp_text.specs.Steps.Marks.{perms_text}
+use Rattle.pmp_text.specs.RightsTexts.{perms_text}
 use Rattle.pmp_plan.specs.KeptRows.{said}
 use Rattle.pmp_plan.specs.PlanTexts.{plan_said}
 use Rattle.pmp_plan.specs.Plans.{Gives, MeetsRow, is_named, rest_rights}
@@ -18,6 +17,11 @@ use Rattle.pmp_plan.specs.Routes.{security_in}
 use Rattle.pmp_plan.specs.declared.plan_row.Demand.{Demand}
 use Rattle.pmp_plan.specs.declared.plan_row.PlanRow.{PlanRow}
 use Rattle.pmp_plan.specs.declared.unmet.Unmet.{Unmet}
+
+-- the owner's number, or a dash
+abbrev pub owner_text : Option ℕ → List ℕ
+owner_text None = codes "-"
+owner_text (Some entry) = decimal entry
 
 -- the byte has this owner, and by it these rights, and is held or not
 pub record IsSeen (file : RegisterFile) (it : Unmet) : Type 0 where

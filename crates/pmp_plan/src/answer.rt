@@ -1,8 +1,8 @@
-//! The text that is written for a plan.
+//! The text of the writes for a plan.
 
-ghost use Rattle.std.specs.Prelude.{◌≡◌, IfErr, IfOk, OnOk};
-ghost use Rattle.pmp_plan.specs.PlanAnswers.{IsTold, PlanFails, PlanSays, Untold};
-ghost use Rattle.pmp_plan.specs.declared.answer.AnswerFault.TheVariants.{Output, Plan, Script, Text};
+ghost use Rattle.std.specs.Prelude.{◌≡◌, IfErr, IfOk};
+ghost use Rattle.pmp_plan.specs.PlanAnswers.{IsTold, PlanFails, Tells, Untold};
+ghost use Rattle.pmp_plan.specs.declared.answer.AnswerFault.TheVariants.{Plan, Script, Text};
 ghost use Rattle.pmp_plan.specs.declared.fault.PlanFault.TheVariants.{Memory};
 
 use crate::aim::Aim;
@@ -14,9 +14,8 @@ use crate::plan_row::PlanRow;
 use crate::reading::read_plan;
 use crate::script::append_script;
 use pmp_core::RegFile;
-use pmp_text::{LineFault, MAX_SCRIPT, OutputFault, Refusal, RowFault, write_out};
+use pmp_text::{LineFault, MAX_SCRIPT, Refusal, RowFault};
 use std::alloc::{AllocError, Global};
-use std::io::Write;
 
 /// The output format of writes.
 #[derive(Clone, Copy, Debug, PartialEq, Eq)]
@@ -27,7 +26,7 @@ pub enum Form {
     Array,
 }
 
-/// The reason why nothing, or not everything, is written for a text.
+/// The reason why a text has no writes, or no plan.
 #[derive(Clone, Copy, Debug, PartialEq, Eq)]
 pub enum AnswerFault {
     /// The text describes no plan.
@@ -36,7 +35,6 @@ pub enum AnswerFault {
     Script(LineFault),
     /// There are no writes for the plan, or memory ran out.
     Plan(PlanFault),
-    Output,
 }
 
 impl From<PlanFault> for AnswerFault {
@@ -71,25 +69,24 @@ impl From<AllocError> for AnswerFault {
     }
 }
 
-impl From<OutputFault> for AnswerFault {
-    ghost from_gives = { λ _ answer. answer ≡ Output };
-
-    fn from(_: OutputFault) -> AnswerFault {
-        AnswerFault::Output
-    }
+/// What is asked of the writes of a plan, and how they are written.
+#[derive(Clone, Copy, Debug, PartialEq, Eq)]
+pub struct Wanted {
+    pub aim: Aim,
+    pub form: Form,
 }
 
 /// Returns the text of the writes for these rows.
 fn told(
     alloc: Global,
     start: &RegFile,
-    aim: Aim,
-    form: Form,
+    wanted: Wanted,
     rows: &[PlanRow<'_>],
 ) -> Result<Vec<u8>, AnswerFault>
-    ensures ok { IfOk result (λ text. IsTold start.now aim form rows.now text.items) }
-    ensures err { IfErr result (Untold start.now aim rows.now) }
+    ensures ok { IfOk result (λ text. IsTold start.now wanted.aim wanted.form rows.now text.items) }
+    ensures err { IfErr result (Untold start.now wanted.aim rows.now) }
 {
+    let Wanted { aim, form } = wanted;
     let writes = plan(&mut search_room(alloc)?, start, aim, rows)?;
     let mut text = Vec::new(alloc);
     match form {
@@ -99,25 +96,19 @@ fn told(
     Ok(text)
 }
 
-/// Writes the writes for a plan in a text, from these registers.
-///
-/// The text is complete before its first byte is written, so every refusal but `Output` leaves the output untouched.
-pub fn write_plan<W: Write>(
+/// Returns the writes for a plan in a text, from these registers.
+pub fn plan_text(
     alloc: Global,
     start: &RegFile,
-    aim: Aim,
-    form: Form,
-    text: &[u8],
-    writer: &mut W,
-) -> Result<(), AnswerFault>
-    ensures ok { OnOk result (PlanSays start.now aim form text.now (W.contents writer.old) (W.contents writer.new)) }
-    ensures err { IfErr result (PlanFails start.now aim form text.now (W.contents writer.old) (W.contents writer.new)) }
+    wanted: Wanted,
+    plan: &[u8],
+) -> Result<Vec<u8>, AnswerFault>
+    ensures ok { IfOk result (λ text. Tells start.now wanted.aim wanted.form plan.now text.items) }
+    ensures err { IfErr result (PlanFails start.now wanted.aim plan.now) }
 {
-    if text.len() > MAX_SCRIPT {
+    if plan.len() > MAX_SCRIPT {
         return Err(AnswerFault::Text(Refusal::TooLong.whole().at_row(0)));
     }
-    let rows = read_plan(alloc, text)?;
-    let told = told(alloc, start, aim, form, &rows)?;
-    write_out(writer, &told)?;
-    Ok(())
+    let rows = read_plan(alloc, plan)?;
+    told(alloc, start, wanted, &rows)
 }

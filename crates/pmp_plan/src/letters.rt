@@ -1,7 +1,7 @@
 //! The words of plans and of verdicts.
 
 ghost use Rattle.std.specs.Prelude.{◌≡◌, Some, codes, if◌then◌else◌};
-ghost use Rattle.pmp_text.specs.Steps.Marks.{perms_text};
+ghost use Rattle.pmp_text.specs.RightsTexts.{perms_text};
 ghost use Rattle.pmp_plan.specs.Verdicts.{yes_no};
 
 use pmp_core::{Kind, Perms};
@@ -28,7 +28,7 @@ pub struct Letters(pub Perms);
 impl fmt::Display for Letters {
     ghost output = { λ letters. Some (perms_text letters.0) };
 
-    #[tactic(auto, unfolding(pmp_text::specs::Steps::Marks::perms_text))]
+    #[tactic(auto, unfolding(pmp_text::specs::RightsTexts::perms_text))]
     fn fmt<W: fmt::Write>(&self, f: &mut fmt::Formatter<W>) -> fmt::Result {
         let read = letter(self.0.allows(Kind::Load), "r");
         let write = letter(self.0.allows(Kind::Store), "w");

@@ -37,14 +37,14 @@ mod verdicts;
 mod writes;
 
 pub use aim::{Aim, Watch};
-pub use answer::{AnswerFault, Form, write_plan};
+pub use answer::{AnswerFault, Form, Wanted, plan_text};
 pub use array::append_array;
 pub use fault::PlanFault;
 pub use judge::meets;
 pub use leading::plan;
 pub use level::{SEARCH_ROOM, search_room};
 pub use passing::leads;
-pub use plan_of::{registers_after, write_plan_of};
+pub use plan_of::{implemented_plan, registers_after};
 pub use plan_row::{Demand, PlanRow};
 pub use reading::{read_plan, read_plan_to};
 pub use room_plan::append_plan;

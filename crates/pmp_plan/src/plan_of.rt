@@ -1,7 +1,7 @@
 //! The plan that registers implement.
 
-ghost use Rattle.std.specs.Prelude.{◌≡◌, ◌<◌, IfErr, IfOk, IfSome, IsTrue, OnOk, length};
-ghost use Rattle.pmp_plan.specs.PlansOf.{HasNoPlan, IsPlanOf, IsPlanOfScript, Leaves, LeavesNone, PlanOfFails, PlanOfSays};
+ghost use Rattle.std.specs.Prelude.{◌≡◌, ◌<◌, IfErr, IfOk, IfSome, IsTrue, length};
+ghost use Rattle.pmp_plan.specs.PlansOf.{HasNoPlan, IsPlanOf, IsPlanOfScript, Leaves, LeavesNone};
 
 use crate::answer::AnswerFault;
 use crate::fault::PlanFault;
@@ -13,10 +13,9 @@ use crate::row_faults::overlap;
 use crate::security::Security;
 use pmp_core::{ADDRESS_LIMIT, RegFile, Registers};
 use pmp_map::{ModeRights, Run, is_held, run_around};
-use pmp_text::{GrowingLog, NoMemory, append_line, read_script_in, write_out};
+use pmp_text::{GrowingLog, NoMemory, append_line, read_script_in};
 use std::alloc::Global;
 use std::fmt;
-use std::io::Write;
 
 /// The name of a row, derived from the entry that owns its bytes.
 #[derive(Clone, Copy)]
@@ -99,7 +98,7 @@ pub fn registers_after(alloc: Global, script: &[u8]) -> Result<RegFile, AnswerFa
 }
 
 /// Returns the plan that the final registers of a script implement: it is read back, and checked against them.
-fn plan_text(alloc: Global, script: &[u8]) -> Result<Vec<u8>, AnswerFault>
+pub fn implemented_plan(alloc: Global, script: &[u8]) -> Result<Vec<u8>, AnswerFault>
     ensures ok { IfOk result (λ text. IsPlanOfScript script.now text.items) }
     ensures err { IfErr result (HasNoPlan script.now) }
 {
@@ -110,18 +109,4 @@ fn plan_text(alloc: Global, script: &[u8]) -> Result<Vec<u8>, AnswerFault>
         return Err(AnswerFault::Plan(PlanFault::Memory));
     }
     Ok(text)
-}
-
-/// Writes the plan that the final registers of a script implement. It is complete before its first byte is written.
-pub fn write_plan_of<W: Write>(
-    alloc: Global,
-    script: &[u8],
-    writer: &mut W,
-) -> Result<(), AnswerFault>
-    ensures ok { OnOk result (PlanOfSays script.now (W.contents writer.old) (W.contents writer.new)) }
-    ensures err { IfErr result (PlanOfFails script.now (W.contents writer.old) (W.contents writer.new)) }
-{
-    let text = plan_text(alloc, script)?;
-    write_out(writer, &text)?;
-    Ok(())
 }

@@ -18,7 +18,7 @@ use crate::state::State;
 use pmp_core::{Hart, RegFile};
 use pmp_text::{MAX_SCRIPT, Refusal, Sink};
 
-/// Appends the script that `write_plan` writes for a plan in a text, for a hart after reset and these bits of
+/// Appends the script that `plan_text` gives for a plan in a text, for a hart after reset and these bits of
 /// `mseccfg`. The list keeps the plan's rows, and the search has the other room, of `SEARCH_ROOM` states.
 pub fn append_plan<'a, L: RowList<'a>, S: Sink>(
     rows: &mut L,

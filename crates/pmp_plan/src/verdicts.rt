@@ -2,7 +2,7 @@
 
 ghost use Rattle.std.specs.Prelude.{◌≡◌, ◌⊎◌, ◌++◌, Err, IfErr, List, OnErr, OnOk, Some, ℕ};
 ghost use Rattle.pmp_text.specs.Outcomes.{no_memory_for_rows};
-ghost use Rattle.pmp_text.specs.RunLines.{owner_text};
+ghost use Rattle.pmp_plan.specs.Verdicts.{owner_text};
 ghost use Rattle.pmp_plan.specs.PlanTexts.{plan_said};
 ghost use Rattle.pmp_plan.specs.Verdicts.{AreJudged, IsRestVerdict, VerdictsSay, verdict_line};
 

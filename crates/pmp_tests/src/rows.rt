@@ -1,7 +1,7 @@
 //! The longest rows, which must fit.
 
 use pmp_core::*;
-use pmp_text::{Since, write_entries, write_row};
+use pmp_text::{Since, add_entries, write_row};
 use std::test::Fail;
 
 /// Its number has twenty digits.
@@ -29,7 +29,7 @@ fn the_longest_entry_row_has_room(rt: HostRuntime) -> Result<(), Fail> {
         frozen: Some(u64::MAX),
         held: Some(u64::MAX),
     };
-    write_entries(&mut out, &file, &[last; MAX_ENTRIES])?;
+    add_entries(&mut out, &file, &[last; MAX_ENTRIES])?;
     let row = b"63,napot,00000000000000,ffffffffffffff,rwx,rwx,frozen,frozen,18446744073709551615,\
         18446744073709551615\n";
     assert!(rt; out.ends_with(row.as_slice()));

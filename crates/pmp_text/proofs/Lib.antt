@@ -1,3 +1,5 @@
+pub mod BandNames
+pub mod AddedRows
 pub mod Appending
 pub mod Bounds
 pub mod BrokenRows

@@ -1,8 +1,8 @@
 -- The rights of a run's line.
 use Rattle.std.proofs.Common.{◌≡◌, Bool, true, false, refl}
 use Rattle.pmp_core.specs.Rights.{Rights, perms_of}
-use Rattle.pmp_text.specs.RunLines.{rights_text}
-use Rattle.pmp_text.specs.Steps.Marks.{perms_text}
+use Rattle.pmp_text.specs.RightsTexts.{rights_text}
+use Rattle.pmp_text.specs.RightsTexts.{perms_text}
 
 by_bits : (read write execute : Bool) → let rights : Rights =
     record { read = read; write = write; execute = execute } in perms_text (perms_of rights) ≡ rights_text rights

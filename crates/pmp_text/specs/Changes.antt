@@ -1,4 +1,4 @@
--- The text of how two register files differ in the modes' rights to bytes, or in how bytes are locked.
+-- The rows of how two register files differ in the modes' rights to bytes, or in how bytes are locked.
 use Rattle.std.specs.Prelude.{ℕ, ◌/◌, ◌%◌, ◌==◌, Bool, true, false, ◌&&◌, ◌||◌, not, List, [], ◌∷◌, ◌++◌}
 use Rattle.std.specs.Prelude.{Option, Some, None, codes, if◌then◌else◌}
 use Rattle.std.specs.List.{count_by, flat_map}
@@ -17,10 +17,9 @@ use Rattle.pmp_text.specs.declared.lines.changes.Change.{Change}
 use Rattle.pmp_text.specs.declared.lines.changes.Change.TheVariants.{More, Less, Both}
 use Rattle.pmp_text.specs.declared.lines.changes.Only.{Only}
 use Rattle.pmp_text.specs.declared.lines.changes.Only.TheVariants as only
-use Rattle.pmp_text.specs.declared.lines.hexadecimal.TheConstants.{ADDRESS_DIGITS}
-use Rattle.pmp_text.specs.Hexadecimal.{hex_text}
-use Rattle.pmp_text.specs.Reports.{fields_after}
-use Rattle.pmp_text.specs.RunLines.{mark}
+use Rattle.pmp_text.specs.declared.lines.row_kind.RowKind.TheVariants as kind
+use Rattle.pmp_text.specs.Cells.{CellValue, Address, Word, RowValue}
+use Rattle.pmp_text.specs.RightsTexts.{perms_text}
 
 -- the set has the right that an access of this kind needs
 abbrev pub has_right : Perms → Kind → Bool
@@ -67,20 +66,17 @@ change_text More = codes "more"
 change_text Less = codes "less"
 change_text Both = codes "both"
 
--- `r`, `w` and `x`, each if the set has it
-abbrev pub set_text : Perms → List ℕ
-set_text perms =
-    mark 114 (has_right perms Load) ∷ mark 119 (has_right perms Store) ∷ mark 120 (has_right perms Fetch) ∷ []
-
--- the first and the last byte in fourteen digits, and the fields after them
-abbrev pub run_row : ComparedRun → List (List ℕ) → List ℕ
-run_row run fields = hex_text ADDRESS_DIGITS run.first ++ fields_after (hex_text ADDRESS_DIGITS run.last ∷ fields)
+-- the first and the last byte, and the cells after them
+abbrev pub run_cells : ComparedRun → List CellValue → List CellValue
+run_cells run cells = Address run.first ∷ Address run.last ∷ cells
 
 -- the rights of M-mode and of S-mode and U-mode in the old file, the same in the new, and how they differ
-unfoldable pub rights_row : ComparedRun → (old new : ModeRights) → Change → List ℕ
-rights_row run old new change =
-    run_row run (set_text old.machine ∷ set_text old.others ∷ set_text new.machine ∷ set_text new.others
-    ∷ change_text change ∷ [])
+abbrev pub rights_row : ComparedRun → (old new : ModeRights) → Change → RowValue
+rights_row run old new change = record {
+  kind = kind.Rights;
+  cells = run_cells run (Word (perms_text old.machine) ∷ Word (perms_text old.others)
+      ∷ Word (perms_text new.machine) ∷ Word (perms_text new.others) ∷ Word (change_text change) ∷ []);
+}
 
 -- how bytes are locked: as in their entry's row, or `held`
 abbrev pub byte_lock_text : ByteLock → List ℕ
@@ -97,35 +93,38 @@ is_same_lock Held Held = true
 is_same_lock _ _ = false
 
 -- how they are locked in the old file, and in the new
-unfoldable pub locks_row : ComparedRun → (old new : ByteLock) → List ℕ
-locks_row run old new = run_row run (byte_lock_text old ∷ byte_lock_text new ∷ [])
+abbrev pub locks_row : ComparedRun → (old new : ByteLock) → RowValue
+locks_row run old new = record {
+  kind = kind.Locks;
+  cells = run_cells run (Word (byte_lock_text old) ∷ Word (byte_lock_text new) ∷ []);
+}
 
-abbrev pub rights_row_if : ComparedRun → (old new : ModeRights) → Option Change → List ℕ
-rights_row_if run old new None = []
-rights_row_if run old new (Some change) = rights_row run old new change
+abbrev pub rights_rows : ComparedRun → (old new : ModeRights) → Option Change → List RowValue
+rights_rows run old new None = []
+rights_rows run old new (Some change) = rights_row run old new change ∷ []
 
-abbrev pub locks_row_unless : ComparedRun → (old new : ByteLock) → (is_same : Bool) → List ℕ
-locks_row_unless run old new true = []
-locks_row_unless run old new false = locks_row run old new
+abbrev pub locks_rows : ComparedRun → (old new : ByteLock) → (is_same : Bool) → List RowValue
+locks_rows run old new true = []
+locks_rows run old new false = locks_row run old new ∷ []
 
-abbrev pub row_by : Option Only → ComparedRun → Compared → List ℕ
-row_by only run (Rights old new) = rights_row_if run old new (asked_change only old new)
-row_by only run (Locks old new) = locks_row_unless run old new (is_same_lock old new)
+abbrev pub rows_by : Option Only → ComparedRun → Compared → List RowValue
+rows_by only run (Rights old new) = rights_rows run old new (asked_change only old new)
+rows_by only run (Locks old new) = locks_rows run old new (is_same_lock old new)
 
 abbrev pub has_by : Option Only → Compared → Bool
 has_by only (Rights old new) = is_some (asked_change only old new)
 has_by only (Locks old new) = not (is_same_lock old new)
 
 -- a run's row, if it has one: of rights that differ as asked for, or of locks that differ
-unfoldable pub asked_row : Option Only → ComparedRun → List ℕ
-asked_row only run = row_by only run run.both
+unfoldable pub asked_rows : Option Only → ComparedRun → List RowValue
+asked_rows only run = rows_by only run run.both
 
 unfoldable pub has_row : Option Only → ComparedRun → Bool
 has_row only run = has_by only run.both
 
 -- a row for each run where the files differ as asked for
-abbrev pub change_rows : Option Only → List ComparedRun → List ℕ
-change_rows only runs = flat_map (asked_row only) runs
+abbrev pub change_rows : Option Only → List ComparedRun → List RowValue
+change_rows only runs = flat_map (asked_rows only) runs
 
 -- the number of these rows
 abbrev pub change_count : Option Only → List ComparedRun → ℕ

@@ -10,7 +10,7 @@ use Rattle.pmp_text.specs.declared.lines.registers.Form.{Form}
 use Rattle.pmp_text.specs.declared.lines.registers.Form.TheVariants.{Dump, Script}
 use Rattle.pmp_core.specs.RegisterFile.{RegisterFile}
 use Rattle.pmp_core.specs.RegisterValue.{register_value}
-use Rattle.pmp_text.specs.Effects.{value_text}
+use Rattle.pmp_text.specs.Hexadecimal.{value_text}
 use Rattle.pmp_text.specs.Heads.{kept_value}
 use Rattle.pmp_text.specs.Names.{register_name}
 

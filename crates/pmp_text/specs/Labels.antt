@@ -1,6 +1,5 @@
 -- The names and comments of a policy's rows.
-use Rattle.std.specs.Prelude.{ℕ, List, [], ◌∷◌, map, Option, Some, None, if◌then◌else◌}
-use Rattle.csv.specs.Writing.{default_writer, field_text}
+use Rattle.std.specs.Prelude.{ℕ, List, [], ◌∷◌, map, Some, None, if◌then◌else◌}
 use Rattle.pmp_text.specs.declared.policy.label.Label.{Label}
 use Rattle.pmp_text.specs.declared.policy.Policy.{Policy}
 use Rattle.pmp_text.specs.declared.policy.row_fields.PolicyFields.{PolicyFields}
@@ -36,9 +35,3 @@ rows_said policy = map policy_fields policy.rows.items
 
 abbrev pub labels_said : Policy → List LabelText
 labels_said policy = map label_text policy.labels.items
-
--- the CSV fields of a label in a verdict
-abbrev pub label_fields : Option LabelText → List (List ℕ)
-label_fields None = []
-label_fields (Some label) =
-    field_text default_writer label.name ∷ field_text default_writer label.comment ∷ []

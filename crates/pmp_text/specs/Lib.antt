@@ -1,7 +1,10 @@
 -- What a reader must trust: what each text means, and what each call returns.
 pub mod AccessWords
+pub mod AnswerRows
 pub mod Bytes
+pub mod Cells
 pub mod Changes
+pub mod Columns
 pub mod Contents
 pub mod Cutting
 pub mod Dumps
@@ -19,6 +22,7 @@ pub mod Lines
 pub mod Longhand
 pub mod LongTraces
 pub mod Marks
+pub mod MetNames
 pub mod Moments
 pub mod Names
 pub mod NumberedTraces
@@ -30,7 +34,8 @@ pub mod Policies
 pub mod Refusals
 pub mod Reports
 pub mod RowsLeft
-pub mod RunLines
+pub mod RightsTexts
+pub mod RunRows
 pub mod ScriptEvents
 pub mod ScriptFaults
 pub mod ScriptLines
@@ -41,6 +46,7 @@ pub mod Tables
 pub mod Traces
 pub mod Verdicts
 -- Laws of these definitions, all proved.
+pub mod CsvTexts
 pub mod Faults
 pub mod PolicyFaults
 pub mod SizedScripts

@@ -1,6 +1,6 @@
 -- The text of a picture of a register file's runs, an SVG document.
 use Rattle.std.specs.Prelude.{◌≡◌, ℕ, ◌+◌, ◌-◌, ◌*◌, ◌/◌, ◌%◌, ◌^◌, ◌==◌, Bool, List, [], ◌∷◌, ◌++◌, length, Option}
-use Rattle.std.specs.Prelude.{true, false, Some, None, if◌then◌else◌, codes, decimal}
+use Rattle.std.specs.Prelude.{true, false, not, max, ◌&&◌, Some, None, if◌then◌else◌, codes, decimal, is_some}
 use Rattle.std.specs.List.{enumerate_from, flat_map}
 use Rattle.pmp_core.specs.declared.access.Mode.TheVariants.{M, U}
 use Rattle.pmp_core.specs.declared.access.TheConstants.{ADDRESS_LIMIT}
@@ -15,8 +15,9 @@ use Rattle.pmp_map.specs.Runs.{AreRuns}
 use Rattle.pmp_text.specs.declared.lines.hexadecimal.TheConstants.{ADDRESS_DIGITS}
 use Rattle.pmp_text.specs.declared.lines.picture.TheConstants.{BAND}
 use Rattle.pmp_text.specs.Hexadecimal.{hex_text}
-use Rattle.pmp_text.specs.PictureTexts.{bypassed_sign, foot, frozen_sign, held_sign, legend, style}
-use Rattle.pmp_text.specs.RunLines.{rights_text}
+use Rattle.pmp_text.specs.PictureTexts.{bands_begin, bypassed_sign, foot, frozen_sign, held_sign, legend, style}
+use Rattle.pmp_text.specs.MetNames.{Named, is_whole, meets, offset_text}
+use Rattle.pmp_text.specs.RightsTexts.{rights_text}
 
 -- ---- a run
 
@@ -76,26 +77,77 @@ abbrev pub lock_sign : RegisterFile → Option ℕ → List ℕ
 lock_sign file None = []
 lock_sign file (Some entry) = sign_of (lock_of file entry) (is_held file entry)
 
--- a band with these rights and this sign
-abbrev pub drawn_band : (place : ℕ) → Run → (machine others sign : List ℕ) → List ℕ
-drawn_band place run machine others sign =
+-- a band with these rights and this sign, but for its names and its end
+abbrev pub drawn_strip : (place : ℕ) → Run → (machine others sign : List ℕ) → List ℕ
+drawn_strip place run machine others sign =
     strip place others ++ (ends run.first run.last ++ (extent (size_of run.first run.last) run.owner
-    ++ (permissions machine others ++ (sign ++ (codes "</g>" ++ 10 ∷ [])))))
+    ++ (permissions machine others ++ sign)))
+
+unfoldable pub strip_text : RegisterFile → (place : ℕ) → Run → List ℕ
+strip_text file place run =
+    drawn_strip place run (rights_text (owned_rights file run.owner M)) (rights_text (owned_rights file run.owner U))
+    (lock_sign file run.owner)
+
+-- a byte of a text as XML writes it
+abbrev pub escaped_byte : (byte : ℕ) → List ℕ
+escaped_byte byte =
+    if byte == 60 then codes "&lt;"
+    else (if byte == 62 then codes "&gt;"
+    else (if byte == 38 then codes "&amp;" else byte ∷ []))
+
+abbrev pub escaped : (text : List ℕ) → List ℕ
+escaped text = flat_map escaped_byte text
+
+-- a name, and if only a part of it is in the band, where that begins
+abbrev pub band_name : Named → (first last : ℕ) → List ℕ
+band_name one first last = escaped one.name
+    ++ (if is_whole one first last then [] else offset_text (max first one.first - one.first))
+
+-- the beginning of the cell, or a blank
+abbrev pub beginning : (is_first : Bool) → List ℕ
+beginning is_first = if is_first then codes "<text x='936'>" else codes " "
+
+-- a name of the band, after that
+abbrev pub met_in_band : (is_first : Bool) → Named → (first last : ℕ) → List ℕ
+met_in_band is_first one first last =
+    if meets one first last then beginning is_first ++ band_name one first last else []
+
+-- the names of a band in a cell, if it has some
+abbrev pub names_from : (is_first : Bool) → List Named → (first last : ℕ) → List ℕ
+names_from is_first [] first last = if is_first then [] else codes "</text>"
+names_from is_first (one ∷ more) first last =
+    met_in_band is_first one first last
+    ++ names_from (is_first && not (meets one first last)) more first last
+
+abbrev pub names_text : Option (List Named) → (first last : ℕ) → List ℕ
+names_text None first last = []
+names_text (Some names) first last = names_from true names first last
 
 -- the band of the run at this place
-unfoldable pub band : RegisterFile → (place : ℕ) → Run → List ℕ
-band file place run =
-    drawn_band place run (rights_text (owned_rights file run.owner M)) (rights_text (owned_rights file run.owner U))
-    (lock_sign file run.owner)
+unfoldable pub band : RegisterFile → Option (List Named) → (place : ℕ) → Run → List ℕ
+band file names place run =
+    strip_text file place run ++ (names_text names run.first run.last ++ (codes "</g>" ++ 10 ∷ []))
 
 -- ---- the document
 
+abbrev pub width_text : (has_names : Bool) → List ℕ
+width_text true = codes "1280"
+width_text false = codes "960"
+
 -- the first tag, with room for this many bands
-abbrev pub opening : (bands : ℕ) → List ℕ
-opening bands =
+abbrev pub opening : (width : List ℕ) → (bands : ℕ) → List ℕ
+opening width bands =
     let height = decimal (BAND * bands + 176) in
-    codes "<svg xmlns='http://www.w3.org/2000/svg' width='960' height='" ++ (height
-    ++ (codes "' viewBox='0 0 960 " ++ (height ++ (codes "'>" ++ 10 ∷ []))))
+    codes "<svg xmlns='http://www.w3.org/2000/svg' width='" ++ (width ++ (codes "' height='" ++ (height
+    ++ (codes "' viewBox='0 0 " ++ (width ++ (codes " " ++ (height ++ (codes "'>" ++ 10 ∷ []))))))))
+
+abbrev pub background : (width : List ℕ) → List ℕ
+background width = codes "<rect width='" ++ (width ++ (codes "' height='100%'/>" ++ 10 ∷ []))
+
+-- the name of the column of names
+abbrev pub names_head : (has_names : Bool) → List ℕ
+names_head true = codes "<text x='936'>Names</text>"
+names_head false = []
 
 abbrev pub title : (publications : ℕ) → List ℕ
 title publications = codes "PMP memory map, publications done: " ++ decimal publications
@@ -121,18 +173,24 @@ settings_line lockdown policy bypass =
 abbrev pub settings : MseccfgFields → List ℕ
 settings mseccfg = settings_line (switch_text mseccfg.mml) (switch_text mseccfg.mmwp) (switch_text mseccfg.rlb)
 
--- everything above the bands
-unfoldable pub head : RegisterFile → (publications bands : ℕ) → List ℕ
-head file publications bands =
-    opening bands ++ (spoken_title publications ++ (style ++ (large_title publications
-    ++ (settings file.mseccfg ++ legend))))
+-- the title of a picture of so many bands, its colours and its background
+unfoldable pub title_part : (publications : ℕ) → (has_names : Bool) → (bands : ℕ) → List ℕ
+title_part publications has_names bands = let width = width_text has_names in
+    opening width bands ++ (spoken_title publications ++ (style ++ background width))
+
+-- what stands between the background and the bands
+unfoldable pub legend_part : RegisterFile → (publications : ℕ) → (has_names : Bool) → List ℕ
+legend_part file publications has_names =
+    large_title publications ++ (settings file.mseccfg ++ (legend ++ (names_head has_names ++ bands_begin)))
 
 -- a band for each run, from the top down
-unfoldable pub bands : RegisterFile → List Run → List ℕ
-bands file runs = flat_map (λ (place, run). band file place run) (enumerate_from 0 runs)
+unfoldable pub bands : RegisterFile → Option (List Named) → List Run → List ℕ
+bands file names runs = flat_map (λ (place, run). band file names place run) (enumerate_from 0 runs)
 
 -- the picture of the file's runs, of which there is only one list
-pub record IsPicture (file : RegisterFile) (publications : ℕ) (text : List ℕ) : Type 0 where
-  pub runs : List Run
-  pub runs_are : AreRuns file runs
-  pub drawn : text ≡ head file publications (length runs) ++ (bands file runs ++ foot)
+pub record IsPicture (file : RegisterFile) (publications : ℕ) (names : Option (List Named)) (text : List ℕ) : Type 0
+  where
+    pub runs : List Run
+    pub runs_are : AreRuns file runs
+    pub drawn : text ≡ title_part publications (is_some names) (length runs)
+        ++ (legend_part file publications (is_some names) ++ (bands file names runs ++ foot))

@@ -6,7 +6,7 @@ use Rattle.std.specs.List.{flat_map}
 abbrev pub lines_text : List (List ℕ) → List ℕ
 lines_text lines = flat_map (λ line. line ++ 10 ∷ []) lines
 
--- what the picture shows, in words for screen readers, the colours, and the background
+-- what the picture shows, in words for screen readers, and the colours
 unfoldable pub style : List ℕ
 style = lines_text (
     (codes "<desc>One band for each run of bytes that have one owner, from byte 0 down to byte 2^56 - 1, not to "
@@ -30,10 +30,9 @@ style = lines_text (
     ∷ codes ".surw- rect{fill:#ffe9a3}"
     ∷ codes ".surwx rect{fill:#ffc4ba}"
     ∷ codes "</style>"
-    ∷ codes "<rect width='960' height='100%'/>"
     ∷ [])
 
--- what the bands and their colours mean, the names of the columns, and where the bands begin
+-- what the bands and their colours mean, and the names of the columns but that of names
 unfoldable pub legend : List ℕ
 legend = lines_text (
     (codes "<text x='16' y='86'>One band for each run of bytes that have one owner, from byte 0 down to byte 2^56 - "
@@ -54,8 +53,13 @@ legend = lines_text (
     ∷ codes "<g transform='translate(16,152)'>"
     ∷ (codes "<text x='8'>First byte</text><text x='148'>Last byte</text><text x='292'>Size</text><text x='496'>"
     ++ codes "Owner</text>")
-    ∷ codes "<text x='592'>Machine</text><text x='700'>Supervisor, user</text><text x='846'>Lock</text>"
-    ∷ codes "</g>"
+    ∷ [])
+    ++ codes "<text x='592'>Machine</text><text x='700'>Supervisor, user</text><text x='846'>Lock</text>"
+
+-- where the bands begin
+unfoldable pub bands_begin : List ℕ
+bands_begin = 10 ∷ lines_text (
+    codes "</g>"
     ∷ codes "<g transform='translate(16,177)'>"
     ∷ [])
 

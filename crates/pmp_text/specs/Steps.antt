@@ -1,6 +1,5 @@
 -- How the readers go through a text, step by step.
 pub mod Cuts
-pub mod Marks
 pub mod Progress
 pub mod Reading
 pub mod Records

@@ -2,6 +2,7 @@
 #![tactic(auto)]
 
 mod access_words;
+mod address_name;
 mod cutter;
 mod event_log;
 mod expectation;
@@ -21,33 +22,109 @@ mod sink;
 mod trace;
 mod words;
 
-pub use access_words::{read_kind, read_mode};
-pub use cutter::{Cut, cut_lines, cut_piece};
-pub use event_log::{EventLog, FixedLog, GrowingLog};
+pub use access_words::read_kind;
+pub use access_words::read_mode;
+pub use address_name::AddressName;
+pub use address_name::AddressNames;
+pub use address_name::append_met;
+pub use cutter::Cut;
+pub use cutter::cut_lines;
+pub use cutter::cut_piece;
+pub use event_log::EventLog;
+pub use event_log::FixedLog;
+pub use event_log::GrowingLog;
 pub use expectation::Expectation;
 pub use flaw::Flaw;
-pub use input::{InputFault, MAX_LIMIT, read_bytes};
-pub use lines::{
-    ADDRESS_DIGITS, Breach, Change, EventPlace, NoMemory, Only, Since, Verdict, append_line,
-    reason_word, write_change, write_effect, write_entries, write_expected, write_picture,
-    write_registers, write_row, write_runs, write_script, write_verdict,
-};
-pub use mark::{Mark, NAME_BYTES, Name};
-pub use moments::{Coming, Lasting, MomentName, Moments, When};
-pub use names::{RegisterName, read_plain_number, read_register, read_register_number};
-pub use numbers::{is_bare, read_numeral, read_word_number};
-pub use output::{OutputFault, write_out};
-pub use policy::{
-    COMMENT, Demand, Kinds, Label, Modes, NAME, Policy, PolicyFields, PolicyRow, read_policy,
-};
+pub use input::InputFault;
+pub use input::MAX_LIMIT;
+pub use input::read_bytes;
+pub use lines::ADDRESS_DIGITS;
+pub use lines::AnswerRow;
+pub use lines::Breach;
+pub use lines::Cell;
+pub use lines::Change;
+pub use lines::Column;
+pub use lines::Drawing;
+pub use lines::EventPlace;
+pub use lines::NoMemory;
+pub use lines::Only;
+pub use lines::RowKind;
+pub use lines::RowSink;
+pub use lines::Since;
+pub use lines::Verdict;
+pub use lines::add_answer;
+pub use lines::add_change;
+pub use lines::add_effect;
+pub use lines::add_entries;
+pub use lines::add_expected;
+pub use lines::add_runs;
+pub use lines::add_verdict;
+pub use lines::answer_cells;
+pub use lines::append_line;
+pub use lines::append_row;
+pub use lines::cell_under;
+pub use lines::deciding_entry;
+pub use lines::lock_word;
+pub use lines::matching_word;
+pub use lines::reason_word;
+pub use lines::text_of;
+pub use lines::write_picture;
+pub use lines::write_registers;
+pub use lines::write_row;
+pub use lines::write_runs;
+pub use lines::write_script;
+pub use mark::Mark;
+pub use mark::NAME_BYTES;
+pub use mark::Name;
+pub use moments::Coming;
+pub use moments::Lasting;
+pub use moments::MomentName;
+pub use moments::Moments;
+pub use moments::When;
+pub use names::RegisterName;
+pub use names::read_plain_number;
+pub use names::read_register;
+pub use names::read_register_number;
+pub use numbers::is_bare;
+pub use numbers::read_numeral;
+pub use numbers::read_word_number;
+pub use output::OutputFault;
+pub use output::write_out;
+pub use policy::COMMENT;
+pub use policy::Demand;
+pub use policy::Kinds;
+pub use policy::Label;
+pub use policy::Modes;
+pub use policy::NAME;
+pub use policy::Policy;
+pub use policy::PolicyFields;
+pub use policy::PolicyRow;
+pub use policy::read_policy;
 pub use refusal::Refusal;
-pub use script::{
-    LineFault, MAX_EVENTS, MAX_HEADED_SCRIPT, MAX_SCRIPT, ReadScript, Script, ScriptFault,
-    ScriptKind, Words, is_headed, read_rights, read_script, read_script_in, split_first_line,
-    unsized_fault,
-};
+pub use script::LineFault;
+pub use script::MAX_EVENTS;
+pub use script::MAX_HEADED_SCRIPT;
+pub use script::MAX_SCRIPT;
+pub use script::ReadScript;
+pub use script::Script;
+pub use script::ScriptFault;
+pub use script::ScriptKind;
+pub use script::Words;
+pub use script::is_headed;
+pub use script::read_rights;
+pub use script::read_script;
+pub use script::read_script_in;
+pub use script::split_first_line;
+pub use script::unsized_fault;
 pub use sink::Sink;
-pub use trace::{
-    MAX_TRACE, Place, Records, Row, RowFault, RowReader, TraceFault, TraceKind, TraceRow,
-    read_trace, read_trace_by,
-};
+pub use trace::MAX_TRACE;
+pub use trace::Place;
+pub use trace::Records;
+pub use trace::Row;
+pub use trace::RowFault;
+pub use trace::RowReader;
+pub use trace::TraceFault;
+pub use trace::TraceKind;
+pub use trace::TraceRow;
+pub use trace::read_trace;
+pub use trace::read_trace_by;

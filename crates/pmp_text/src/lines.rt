@@ -2,7 +2,11 @@
 
 ghost use Rattle.std.specs.Prelude.{◌≡◌, ◌++◌, ◌<◌, ◌^◌, IfOk, IfSome, OnErr, OnOk};
 
+mod answer;
+mod cell;
 mod changes;
+mod columns;
+mod csv_rows;
 mod effects;
 mod entries;
 mod expected;
@@ -12,25 +16,32 @@ mod marks;
 mod picture;
 pub(crate) mod registers;
 mod report;
+mod row_kind;
+mod row_sink;
 mod runs;
 mod script;
 mod since;
 mod verdict;
 
 use crate::sink::Sink;
+pub use answer::{add_answer, answer_cells, deciding_entry};
 use arrayvec::ArrayString;
-pub use changes::{Change, Only, write_change};
-pub use effects::{EventPlace, reason_word, write_effect};
-pub use entries::write_entries;
-pub use expected::write_expected;
+pub use cell::Cell;
+pub use changes::{Change, Only, add_change};
+pub use csv_rows::append_row;
+pub use effects::{EventPlace, add_effect, reason_word};
+pub use entries::{add_entries, lock_word, matching_word};
+pub use expected::add_expected;
 pub use hexadecimal::ADDRESS_DIGITS;
-pub use picture::write_picture;
+pub use picture::{Drawing, write_picture};
 pub use registers::write_registers;
 pub use report::write_row;
-pub use runs::write_runs;
+pub use row_kind::{Column, RowKind, cell_under};
+pub use row_sink::{AnswerRow, RowSink};
+pub use runs::{add_runs, write_runs};
 pub use script::write_script;
 pub use since::Since;
-pub use verdict::{Breach, Verdict, write_verdict};
+pub use verdict::{Breach, Verdict, add_verdict};
 /// There is no room for more of a text: the error of the calls that append texts.
 pub use std::alloc::AllocError as NoMemory;
 use std::alloc::AllocError;
@@ -39,6 +50,9 @@ use std::fmt::{Display, Write};
 /// The greatest length of a line in bytes. No line that this crate writes is longer than some four hundred bytes; a
 /// longer one would find no room.
 const LINE: usize = 512;
+
+/// The greatest length of a register's name in bytes.
+const WORD: usize = 16;
 
 /// Appends a line, or nothing.
 pub fn append_line<S: Sink, L: Display + Drop>(out: &mut S, line: L) -> Result<(), AllocError>
@@ -62,7 +76,9 @@ fn append_text<const MOST: usize, S: Sink, L: Display + Drop>(
 }
 
 /// Returns the text by itself.
-fn text_of<const MOST: usize, L: Display + Drop>(text: L) -> Result<ArrayString<MOST>, AllocError>
+pub fn text_of<const MOST: usize, L: Display + Drop>(
+    text: L,
+) -> Result<ArrayString<MOST>, AllocError>
     requires { MOST < 2 ^ 16 }
     ensures { IfOk result (λ written. IfSome (L.output text) (λ bytes. written.bytes ≡ bytes)) }
 {

@@ -1,48 +1,40 @@
--- A comparison with the first hart of a folder.
-use Rattle.std.proofs.Common.{◌≡◌, ◌∙◌, ◌≤◌, ◌∷◌, [], ap, refl, List, Some, None, length, true, false}
-use Rattle.std.proofs.Common.{arith, Bool}
+-- The first hart of a folder.
+use Rattle.std.proofs.Common.{◌≡◌, ◌≤◌, ◌∙◌, ◌∷◌, ◌&&◌, [], ap, sym, ℕ, List, None, Some, length, arith, Bool, true, false, true≢false}
+use Rattle.std.proofs.lemmas.List.{length-map}
+use Rattle.std.proofs.lemmas.List.Sorted.{length_permutation}
 use Rattle.std.specs.List.{slice_get}
+use Rattle.std.specs.Prelude.{filter}
 use Rattle.clap.specs.Words.{Text}
 use Rattle.pmp_names.specs.declared.hart_name.HartName.{HartName}
 use Rattle.pmp_names.specs.HartLists.{names_of}
-use Rattle.pmp_tool.specs.declared.command.Command.{Command}
-use Rattle.pmp_tool.specs.declared.harts.Harts.{Harts}
-use Rattle.pmp_tool.specs.Commands.{Diff, asked}
-use Rattle.pmp_tool.specs.HartComparisons.{IsComparison}
-use Rattle.pmp_tool.specs.Harts.{path_on}
+use Rattle.pmp_names.specs.HartNames.{AreHarts, is_script}
+use Rattle.pmp_tool.specs.declared.failure.Failure.{Failure}
+use Rattle.pmp_tool.specs.Finding.{AreUnfoundAt, unfit, unlisted}
+use Rattle.pmp_tool.specs.HartComparisons.{ComparisonFails}
+use Rattle.pmp_tool.specs.HartComparisons.{unfit as has_none, unlisted as cant_list}
+use Rattle.pmp_tool.specs.Inputs.{Paths}
 
-pub are_none : (harts : List HartName) → length harts ≤ 0 → names_of harts ≡ []
-are_none [] none = refl
-are_none (hart ∷ more) none = absurd (omega (arith, none))
+nothing_true : (a : Bool) → a && false ≡ true → ⊥
+nothing_true true is = true≢false (sym is)
+nothing_true false is = true≢false (sym is)
 
--- the first of them
+-- a folder with harts has one
+pub some_hart : (files : List Text) (harts : List HartName) → AreHarts files (names_of harts) → length harts ≤ 0 → ⊥
+some_hart files harts are none =
+    let same = length_permutation (filter is_script files) (names_of harts) are.same in
+    let many = length-map harts (λ (hart : HartName). hart.name.bytes) in
+    let count : length (filter is_script files) ≡ 0 = omega (arith, same, many, none) in
+    nothing_true _ (rw count at are.are_there)
+
+-- why the folder at a path has no harts is why none are compared
+pub comparison_unfound : (paths : Paths) (folder : Text) (has_locks : Bool) (failure : Failure)
+    → AreUnfoundAt (paths.folders folder) None failure → ComparisonFails paths folder has_locks failure
+comparison_unfound paths folder has_locks _ (unlisted fault cant) = cant_list fault cant
+comparison_unfound paths folder has_locks _ (unfit fault files is none) = has_none fault files is none
+
 pub first_of : (harts : List HartName) (first : HartName) → Some first ≡ slice_get harts 0
     → (rest : List Text) × (names_of harts ≡ first.name.bytes ∷ rest)
 first_of [] first is = absurd cc
 first_of (hart ∷ more) first is =
     let same : hart ≡ first = cc in
     (names_of more, ap (λ (one : HartName). one.name.bytes ∷ names_of more) same)
-
-pub is_comparison : (command : Command) (has_locks : Bool) (harts : Harts) (one : Command) (others : Harts)
-    (first : HartName) (script : Text) → Some first ≡ slice_get harts.names.items 0
-    → script ≡ path_on true command.script.now first.name.bytes
-    → asked one ≡ record {
-      script = script;
-      task = Diff command.script.now None None (record { only = None; has_locks = has_locks });
-    }
-    → others ≡ record { old = false; new = true; names = harts.names }
-    → IsComparison command has_locks harts one others
-is_comparison command has_locks harts one others first script is path asks are =
-    let (rest, names) = first_of harts.names.items first is in
-    record {
-      first = first.name.bytes;
-      rest = rest;
-      are = names;
-      asks = asks ∙ ap (λ (path : Text). record {
-        script = path;
-        task = Diff command.script.now None None (record { only = None; has_locks = has_locks });
-      }) path;
-      is_old = ap (λ (harts : Harts). harts.old) are;
-      is_new = ap (λ (harts : Harts). harts.new) are;
-      same = ap (λ (harts : Harts). harts.names) are;
-    }

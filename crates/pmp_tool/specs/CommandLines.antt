@@ -8,8 +8,8 @@ use Rattle.pmp_import.specs.declared.options.Options.{Options}
 use Rattle.pmp_tool.specs.declared.argument.Argument.{Argument}
 use Rattle.pmp_tool.specs.declared.command_name.CommandName.{CommandName}
 use Rattle.pmp_tool.specs.Arguments.{arguments_of, command_word, commands, rule_in}
-use Rattle.pmp_names.specs.AddressNames.{Named}
-use Rattle.pmp_tool.specs.Commands.{Asked, Import, LongAudit, asked_of}
+use Rattle.pmp_text.specs.MetNames.{Named}
+use Rattle.pmp_tool.specs.Commands.{Import, LongAudit, Task, asked_of}
 
 -- one more argument
 unfoldable pub with_argument : App → Argument → App
@@ -57,7 +57,7 @@ pmp_app =
     with_command names (topic_app (codes "rows"))
 
 -- clap accepts the words, and its matches ask for this, with these names for addresses
-abbrev pub WordsAskFor : List Named → List Text → Asked → Type 0
+abbrev pub WordsAskFor : List Named → List Text → Task → Type 0
 WordsAskFor names words task =
     (fault_of pmp_app words ≡ []) × (asked_of names (subcommand_of pmp_app words) ≡ Ok task)
 
@@ -68,17 +68,16 @@ pub record AsksForLongAudit (words : List Text) : Type 0 where
   pub jobs : Option ℕ
   pub first : ℕ
   pub names : List Named
-  pub task : WordsAskFor names words (record { script = script; task = LongAudit trace jobs first })
+  pub task : WordsAskFor names words (LongAudit script trace jobs first)
 
 -- the words ask for an import
 pub record AsksForImport (words : List Text) : Type 0 where
-  pub script : Text
   pub log : Text
   pub format : Format
   pub options : Options
   pub folder : Option Text
   pub names : List Named
-  pub task : WordsAskFor names words (record { script = script; task = Import log format options folder })
+  pub task : WordsAskFor names words (Import log format options folder)
 
 -- the words ask for output that is written piece by piece
 abbrev pub AsksForPieces : List Text → Type 0

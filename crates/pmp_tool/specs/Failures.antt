@@ -81,7 +81,6 @@ abbrev pub unplanned : AnswerFault → Failure
 unplanned (answer.Text fault) = refused_at fault.kind (PlanRow fault)
 unplanned (answer.Script fault) = unaudited (audit.Script fault)
 unplanned (answer.Plan fault) = refused_at (plan_refusal fault) (place_in_plan fault)
-unplanned answer.Output = refused Output
 
 -- a refusal's text is one line; clap has its own texts
 abbrev pub failure_text : Failure → Option (List ℕ)

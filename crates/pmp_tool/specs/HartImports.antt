@@ -1,6 +1,6 @@
 -- The scripts of all harts of a log, in a folder made for them.
 use Rattle.std.specs.Prelude.{◌≡◌, ◌+◌, ◌==◌, ◌<◌, ℕ, List, [], ◌∷◌, ◌++◌, length, map, Option, Some, None, Ok}
-use Rattle.std.specs.Prelude.{All, if◌then◌else◌, option_map}
+use Rattle.std.specs.Prelude.{All, if◌then◌else◌}
 use Rattle.clap.specs.Words.{Text}
 use Rattle.pmp_import.specs.Imports.{Stops}
 use Rattle.pmp_import.specs.Surveys.{surveyed}
@@ -10,20 +10,17 @@ use Rattle.pmp_import.specs.declared.survey.Survey.{Survey}
 use Rattle.pmp_text.specs.Lines.{lines}
 use Rattle.pmp_text.specs.declared.refusal.Refusal.{Refusal}
 use Rattle.pmp_text.specs.declared.refusal.Refusal.TheVariants.{Memory, NoHart}
-use Rattle.pmp_tool.specs.declared.command.Command.{Command}
 use Rattle.pmp_tool.specs.declared.failure.Failure.{Failure}
 use Rattle.pmp_tool.specs.declared.hart_script.HartScript.{HartScript}
+use Rattle.pmp_tool.specs.declared.note.Note.{Note}
 use Rattle.pmp_tool.specs.declared.note.Note.TheVariants.{Scripts}
 use Rattle.pmp_tool.specs.declared.outcome.Outcome.{Outcome}
 use Rattle.pmp_tool.specs.declared.outcome.Outcome.TheVariants.{Imported}
 use Rattle.pmp_tool.specs.declared.request.Import.{Import}
-use Rattle.pmp_tool.specs.declared.request.Request.{Request}
-use Rattle.pmp_tool.specs.declared.request.Request.TheVariants as request
-use Rattle.pmp_tool.specs.CommandAnswers.{CommandAnswers}
-use Rattle.pmp_tool.specs.Failures.{refused, unimported}
+use Rattle.pmp_tool.specs.Failures.{in_memory, refused, unimported}
 use Rattle.pmp_tool.specs.HartScripts.{AreMade, CantBeMade}
 use Rattle.pmp_tool.specs.Inputs.{AreBytesOf, CantBeOpened, Paths}
-use Rattle.pmp_tool.specs.NamedAnswers.{FailsApart}
+use Rattle.pmp_tool.specs.Streams.{ImportFails, ImportSays}
 
 -- the harts from this number on that have writes, by each hart's count
 abbrev pub writers_from : (hart : ℕ) → (writes : List ℕ) → List ℕ
@@ -39,9 +36,6 @@ writers survey = writers_from 0 survey.writes
 abbrev pub import_of : (hart : ℕ) → Import → Import
 import_of hart import = record import { options = record import.options { hart = Some hart } }
 
-abbrev pub command_of : (hart : ℕ) → Import → Command → Command
-command_of hart import command = record command { request = request.Import (import_of hart import) }
-
 -- a survey of the log found this, with no hart asked for
 pub record IsFound (known : Option (List ℕ)) (format : Format) (survey : Survey) : Type 0 where
   pub log : List ℕ
@@ -54,12 +48,11 @@ pub data IsUnfound (known : Option (List ℕ)) (format : Format) : Failure → T
   unsurveyed : (log : List ℕ) (fault : ImportFault) → AreBytesOf known log
       → Stops (surveyed format None) log fault → IsUnfound known format (unimported fault)
 
-module _ (paths : Paths) (command : Command) (import : Import) where
-  -- the text is the output of this hart's import
+module _ (paths : Paths) (import : Import) where
+  -- the text is the script of this hart's import
   pub record IsOfHart (script : HartScript) : Type 0 where
-    pub outcome : Outcome
-    pub answers : CommandAnswers paths (command_of script.hart import command) (Some []) (Some script.text.items)
-        outcome
+    pub note : Note
+    pub says : ImportSays (paths.traces import.log.now) (import_of script.hart import) note script.text.items
 
   -- these are the scripts of these harts
   pub record AreOf (harts : List ℕ) (made : List HartScript) : Type 0 where
@@ -75,8 +68,9 @@ module _ (paths : Paths) (command : Command) (import : Import) where
 
   -- the import of one hart fails, or there is no memory for its script
   pub data OneFails : Failure → Type 0 where
-    of_hart : (hart : ℕ) (failure : Failure) → FailsApart paths (command_of hart import command) failure
-        → OneFails failure
+    of_hart : (hart : ℕ) (failure : Failure) (part : Option (List ℕ))
+        → ImportFails (paths.traces import.log.now) (import_of hart import) (Some []) part failure
+        → OneFails (in_memory failure)
     unkept : OneFails (refused Memory)
 
   -- the folder at a path has the scripts of the harts that have writes
@@ -98,8 +92,3 @@ module _ (paths : Paths) (command : Command) (import : Import) where
     unmade : (survey : Survey) → IsFound (paths.traces import.log.now) import.format survey
         → (all : List HartScript) → AreOf (writers survey) all → 0 < length all
         → (fault : Refusal) → CantBeMade fault → CantMake (refused fault)
-
--- the folder that a request makes
-abbrev pub new_folder : Request → Option (Import × Text)
-new_folder (request.Import import) = option_map (λ path. (import, path.now)) import.folder
-new_folder _ = None

@@ -2,12 +2,12 @@
 
 ghost use Rattle.std.specs.Prelude.{◌≡◌, map, option_map};
 ghost use Rattle.clap.specs.Words.{found_of, rows_of, subcommand_rows_of};
-ghost use Rattle.pmp_tool.specs.Commands.{access_in, access_task, asked, asked_of, audit_in, check_in, command_named};
-ghost use Rattle.pmp_tool.specs.Commands.{diff_in, from_in, lint_in, long_audit_in};
-ghost use Rattle.pmp_names.specs.NameLists.{named};
-ghost use Rattle.pmp_tool.specs.Commands.{names_path_in, path_in, plan_in, plan_of_in, policy_in, reads_stdin, second_in};
-ghost use Rattle.pmp_tool.specs.Commands.{policy_from_in, show_in, start_in, task_in};
-ghost use Rattle.pmp_tool.specs.Commands.{task_of, whole_audit_in, why_in, writes_in};
+ghost use Rattle.pmp_text.specs.MetNames.{named};
+ghost use Rattle.pmp_tool.specs.Commands.{Ask, access_in, access_task, asked_of, audit_in, check_in, command_named, diff_in};
+ghost use Rattle.pmp_tool.specs.Commands.{from_in, lint_in, list_in, long_audit_in, names_path_in, path_in, plan_in};
+ghost use Rattle.pmp_tool.specs.Commands.{plan_of_in, policy_from_in, policy_in, query_of, reads_stdin, second_in};
+ghost use Rattle.pmp_tool.specs.Commands.{show_in, start_in, task_in, task_of, verdicts_in, wanted_in, whole_audit_in};
+ghost use Rattle.pmp_tool.specs.Commands.{why_in, writes_in};
 ghost use Rattle.pmp_tool.specs.Words.{result_map};
 
 use crate::argument::Argument;
@@ -17,24 +17,18 @@ use crate::fault_line::FaultLine;
 use crate::hart_words::{read_aim, read_hart, says_aim, says_hart};
 use crate::import_words::read_import;
 use crate::jobs::JOBS;
-use crate::request::{Audit, Check, Diff, LongAudit, Plan, Policy, Request, Why};
+use crate::request::{
+    Audit, Check, Diff, LongAudit, Plan, Policy, Printed, Question, Request, Show, Why,
+};
 use crate::word::{asked, count, is_bare_word, is_set, is_stdin, is_used, needed, word};
 use clap::ArgMatches;
-use pmp_audit::{AskedChanges, Breaches, Pace, View, are_reasons};
+use pmp_audit::{AskedChanges, AskedVerdicts, Breaches, Listing, Pace, View, are_reasons};
 use pmp_core::Access;
 use pmp_lint::Lint;
-use pmp_names::{AddressName, read_address};
-use pmp_plan::Form;
+use pmp_names::read_address;
+use pmp_plan::{Form, Wanted};
 use pmp_share::CHECKERS;
-use pmp_text::Refusal;
-
-/// The request that the program's words make.
-#[derive(Clone, Copy)]
-pub struct Command<'a> {
-    /// The path of the script.
-    pub script: &'a str,
-    pub request: Request<'a>,
-}
+use pmp_text::{AddressName, Refusal};
 
 /// Returns the command that a word names.
 pub fn read_name(word: &str) -> Option<CommandName>
@@ -79,44 +73,57 @@ pub fn names_path<'a>(matches: &ArgMatches<'a>) -> Result<Option<&'a str>, Fault
 
 /// Returns the request of the subcommand that `clap` found in the words, given these names of addresses.
 #[tactic(auto, unfolding(crate::specs::Commands::asked_of))]
-pub fn read_command<'a>(
+pub fn read_request<'a>(
     matches: &ArgMatches<'a>,
     names: &[AddressName<'_>],
-) -> Result<Command<'a>, FaultLine>
-    ensures { result_map asked result ≡ asked_of (map named names.now) (subcommand_rows_of matches.now) }
+) -> Result<Request<'a>, FaultLine>
+    ensures { result_map task_of result ≡ asked_of (map named names.now) (subcommand_rows_of matches.now) }
 {
     let (name, words) = found(matches).ok_or(Refusal::BadWord)?;
     let name = read_name(name).ok_or(Refusal::BadWord)?;
-    let script = path(words, Argument::Script)?;
-    let request = read_request(name, words, names)?;
-    Ok(Command { script, request })
+    let first = path(words, Argument::Script)?;
+    read_task(name, first, words, names)
 }
 
-/// Returns what the command with this name requests about the script.
-fn read_request<'a>(
+/// Returns the request that asks about the script at this path, or about each script of a folder.
+fn ask<'a>(path: &'a str, question: Question<'a>) -> Request<'a>
+    ensures { task_of result ≡ Ask path.now (query_of question.entry) }
+{
+    Request::Print(Printed::Ask(path, question))
+}
+
+/// Returns what the command with this name requests, whose first input is at this path.
+fn read_task<'a>(
     name: CommandName,
+    first: &'a str,
     words: &ArgMatches<'a>,
     names: &[AddressName<'_>],
 ) -> Result<Request<'a>, FaultLine>
-    ensures { result_map task_of result ≡ task_in (map named names.now) name (rows_of (found_of words.now)) }
+    ensures { result_map task_of result
+        ≡ task_in (map named names.now) first.now name (rows_of (found_of words.now)) }
 {
     match name {
-        CommandName::Check => read_check(words, names),
-        CommandName::Why => read_why(words, names),
-        CommandName::Audit => read_audit(words),
-        CommandName::Policy if is_set(words, Argument::Draft) => read_policy_from(words),
-        CommandName::Policy => read_policy(words),
-        CommandName::Dump if is_set(words, Argument::AsScript) => read_show(View::Script, words),
-        CommandName::Dump => read_show(View::Registers, words),
-        CommandName::Map => read_show(View::Runs, words),
-        CommandName::Picture => read_show(View::Picture, words),
-        CommandName::Entries => read_show(View::Entries, words),
-        CommandName::Writes => read_writes(words),
-        CommandName::Lint => read_lint(words),
-        CommandName::Diff => read_diff(words),
-        CommandName::Harts => Ok(Request::Harts(is_set(words, Argument::Locks))),
-        CommandName::Import => read_import(words),
-        CommandName::Plan => read_plan(words),
+        CommandName::Check => Ok(ask(first, read_check(words, names)?)),
+        CommandName::Why => Ok(ask(first, read_why(words, names)?)),
+        CommandName::Audit => read_audit(first, words),
+        CommandName::Policy if is_set(words, Argument::Draft) => read_policy_from(first, words),
+        CommandName::Policy => Ok(ask(first, read_policy(words)?)),
+        CommandName::Dump if is_set(words, Argument::AsScript) => {
+            read_show(first, View::Script, words)
+        }
+        CommandName::Dump => read_show(first, View::Registers, words),
+        CommandName::Map => Ok(ask(first, read_list(Listing::Runs, words)?)),
+        CommandName::Picture => read_show(first, View::Picture, words),
+        CommandName::Entries => Ok(ask(first, read_list(Listing::Entries, words)?)),
+        CommandName::Writes => Ok(ask(first, read_writes(words)?)),
+        CommandName::Lint => Ok(ask(first, read_lint(words)?)),
+        CommandName::Diff => Ok(ask(first, read_diff(words)?)),
+        CommandName::Harts => Ok(Request::Print(Printed::Harts(
+            first,
+            is_set(words, Argument::Locks),
+        ))),
+        CommandName::Import => read_import(first, words),
+        CommandName::Plan => read_plan(first, words),
     }
 }
 
@@ -139,13 +146,13 @@ fn second<'a>(words: &ArgMatches<'a>, argument: Argument) -> Result<&'a str, Fau
     Ok(second)
 }
 
-fn read_check<'a>(words: &ArgMatches, names: &[AddressName<'_>]) -> Result<Request<'a>, FaultLine>
-    ensures { result_map task_of result ≡ check_in (map named names.now) (rows_of (found_of words.now)) }
+fn read_check<'a>(words: &ArgMatches, names: &[AddressName<'_>]) -> Result<Question<'a>, FaultLine>
+    ensures { result_map query_of result ≡ check_in (map named names.now) (rows_of (found_of words.now)) }
 {
     let expected = asked(words, Argument::Expect)?.unwrap_or(Expected::Allow);
     let after = asked(words, Argument::After)?;
     let access = read_access(words, names)?;
-    Ok(Request::Check(Check {
+    Ok(Question::Check(Check {
         access,
         after,
         expected,
@@ -153,12 +160,12 @@ fn read_check<'a>(words: &ArgMatches, names: &[AddressName<'_>]) -> Result<Reque
     }))
 }
 
-fn read_why<'a>(words: &ArgMatches, names: &[AddressName<'_>]) -> Result<Request<'a>, FaultLine>
-    ensures { result_map task_of result ≡ why_in (map named names.now) (rows_of (found_of words.now)) }
+fn read_why<'a>(words: &ArgMatches, names: &[AddressName<'_>]) -> Result<Question<'a>, FaultLine>
+    ensures { result_map query_of result ≡ why_in (map named names.now) (rows_of (found_of words.now)) }
 {
     let after = asked(words, Argument::After)?;
     let access = read_access(words, names)?;
-    Ok(Request::Why(Why {
+    Ok(Question::Why(Why {
         access,
         after,
         is_bare: is_bare_word(words, Argument::Start),
@@ -184,65 +191,85 @@ fn read_access(words: &ArgMatches, names: &[AddressName<'_>]) -> Result<Access, 
     Ok(Access::new(mode, kind, start, length)?)
 }
 
-fn read_audit<'a>(words: &ArgMatches<'a>) -> Result<Request<'a>, FaultLine>
-    ensures { result_map task_of result ≡ audit_in (rows_of (found_of words.now)) }
+fn read_audit<'a>(script: &'a str, words: &ArgMatches<'a>) -> Result<Request<'a>, FaultLine>
+    ensures { result_map task_of result ≡ audit_in script.now (rows_of (found_of words.now)) }
 {
     let trace = second(words, Argument::Trace)?;
     if is_set(words, Argument::Long) {
-        read_long_audit(words, trace)
+        read_long_audit(script, trace, words)
     } else {
-        read_whole_audit(words, trace)
+        read_whole_audit(script, trace, words)
     }
 }
 
 /// Returns an audit of a trace that is read as a whole.
-fn read_whole_audit<'a>(words: &ArgMatches, trace: &'a str) -> Result<Request<'a>, FaultLine>
-    ensures { result_map task_of result ≡ whole_audit_in trace.now (rows_of (found_of words.now)) }
+fn read_whole_audit<'a>(
+    script: &'a str,
+    trace: &'a str,
+    words: &ArgMatches,
+) -> Result<Request<'a>, FaultLine>
+    ensures { result_map task_of result ≡ whole_audit_in script.now trace.now (rows_of (found_of words.now)) }
 {
     if is_used(words, Argument::Jobs) || is_used(words, Argument::FirstRow) {
         return Err(FaultLine::from(Refusal::BadWord));
     }
     let checkers = count(words, Argument::Checkers, u64::from(CHECKERS))?;
-    Ok(Request::Audit(Audit { trace, checkers }))
+    Ok(ask(script, Question::Audit(Audit { trace, checkers })))
 }
 
 /// Returns an audit of a trace that is read piece by piece: its first row is row 1 unless the words say otherwise.
-fn read_long_audit<'a>(words: &ArgMatches, trace: &'a str) -> Result<Request<'a>, FaultLine>
-    ensures { result_map task_of result ≡ long_audit_in trace.now (rows_of (found_of words.now)) }
+fn read_long_audit<'a>(
+    script: &'a str,
+    trace: &'a str,
+    words: &ArgMatches,
+) -> Result<Request<'a>, FaultLine>
+    ensures { result_map task_of result ≡ long_audit_in script.now trace.now (rows_of (found_of words.now)) }
 {
     if is_used(words, Argument::Checkers) || is_used(words, Argument::Names) {
         return Err(FaultLine::from(Refusal::BadWord));
     }
     let jobs = count(words, Argument::Jobs, u64::from(JOBS))?;
     let first = count(words, Argument::FirstRow, u64::MAX)?.unwrap_or(1);
-    Ok(Request::LongAudit(LongAudit { trace, jobs, first }))
+    Ok(Request::LongAudit(LongAudit {
+        script,
+        trace,
+        jobs,
+        first,
+    }))
 }
 
-fn read_policy<'a>(words: &ArgMatches<'a>) -> Result<Request<'a>, FaultLine>
-    ensures { result_map task_of result ≡ policy_in (rows_of (found_of words.now)) }
+/// Returns when a policy's rows are judged, and which breaches get rows.
+fn read_verdicts(words: &ArgMatches) -> AskedVerdicts
+    ensures { result ≡ verdicts_in (rows_of (found_of words.now)) }
+{
+    AskedVerdicts {
+        pace: if is_set(words, Argument::EachWrite) {
+            Pace::Events
+        } else {
+            Pace::Publications
+        },
+        breaches: if is_set(words, Argument::AllBreaches) {
+            Breaches::All
+        } else {
+            Breaches::First
+        },
+    }
+}
+
+fn read_policy<'a>(words: &ArgMatches<'a>) -> Result<Question<'a>, FaultLine>
+    ensures { result_map query_of result ≡ policy_in (rows_of (found_of words.now)) }
 {
     let path = second(words, Argument::Policy)?;
-    let pace = if is_set(words, Argument::EachWrite) {
-        Pace::Events
-    } else {
-        Pace::Publications
-    };
-    let breaches = if is_set(words, Argument::AllBreaches) {
-        Breaches::All
-    } else {
-        Breaches::First
-    };
-    Ok(Request::Policy(Policy {
+    Ok(Question::Policy(Policy {
         path,
-        pace,
-        breaches,
+        asked: read_verdicts(words),
         is_strict: is_set(words, Argument::Strict),
     }))
 }
 
 /// Returns a request for a policy, which goes with no other option.
-fn read_policy_from<'a>(words: &ArgMatches) -> Result<Request<'a>, FaultLine>
-    ensures { result_map task_of result ≡ policy_from_in (rows_of (found_of words.now)) }
+fn read_policy_from<'a>(script: &'a str, words: &ArgMatches) -> Result<Request<'a>, FaultLine>
+    ensures { result_map task_of result ≡ policy_from_in script.now (rows_of (found_of words.now)) }
 {
     if is_used(words, Argument::Policy)
         || is_set(words, Argument::EachWrite)
@@ -253,46 +280,58 @@ fn read_policy_from<'a>(words: &ArgMatches) -> Result<Request<'a>, FaultLine>
     {
         return Err(FaultLine::from(Refusal::BadWord));
     }
-    Ok(Request::PolicyFrom)
+    Ok(Request::Print(Printed::PolicyFrom(script)))
 }
 
 /// Returns a view of the script, after all publications unless the words say when.
-fn read_show<'a>(view: View, words: &ArgMatches) -> Result<Request<'a>, FaultLine>
-    ensures { result_map task_of result ≡ show_in view (rows_of (found_of words.now)) }
+fn read_show<'a>(script: &'a str, view: View, words: &ArgMatches) -> Result<Request<'a>, FaultLine>
+    ensures { result_map task_of result ≡ show_in script.now view (rows_of (found_of words.now)) }
 {
-    Ok(Request::Show(view, asked(words, Argument::After)?))
+    let after = asked(words, Argument::After)?;
+    Ok(Request::Print(Printed::Show(Show {
+        script,
+        view,
+        after,
+    })))
+}
+
+/// Returns a list of the script, after all publications unless the words say when.
+fn read_list<'a>(listing: Listing, words: &ArgMatches) -> Result<Question<'a>, FaultLine>
+    ensures { result_map query_of result ≡ list_in listing (rows_of (found_of words.now)) }
+{
+    Ok(Question::List(listing, asked(words, Argument::After)?))
 }
 
 /// Returns the effects of writes. Each accepted reason has to be one that rows write.
-fn read_writes<'a>(words: &ArgMatches<'a>) -> Result<Request<'a>, FaultLine>
-    ensures { result_map task_of result ≡ writes_in (rows_of (found_of words.now)) }
+fn read_writes<'a>(words: &ArgMatches<'a>) -> Result<Question<'a>, FaultLine>
+    ensures { result_map query_of result ≡ writes_in (rows_of (found_of words.now)) }
 {
     match word(words, Argument::AcceptReason) {
-        None => Ok(Request::Writes("")),
-        Some(accepted) if are_reasons(accepted.as_bytes()) => Ok(Request::Writes(accepted)),
+        None => Ok(Question::Writes("")),
+        Some(accepted) if are_reasons(accepted.as_bytes()) => Ok(Question::Writes(accepted)),
         Some(_) => Err(FaultLine::of_word(Argument::AcceptReason)),
     }
 }
 
 /// Returns the findings. Each accepted name has to be a finding's.
-fn read_lint<'a>(words: &ArgMatches<'a>) -> Result<Request<'a>, FaultLine>
-    ensures { result_map task_of result ≡ lint_in (rows_of (found_of words.now)) }
+fn read_lint<'a>(words: &ArgMatches<'a>) -> Result<Question<'a>, FaultLine>
+    ensures { result_map query_of result ≡ lint_in (rows_of (found_of words.now)) }
 {
     match word(words, Argument::Accept) {
-        None => Ok(Request::Lint("")),
-        Some(accepted) if Lint::are_named(accepted.as_bytes()) => Ok(Request::Lint(accepted)),
+        None => Ok(Question::Lint("")),
+        Some(accepted) if Lint::are_named(accepted.as_bytes()) => Ok(Question::Lint(accepted)),
         Some(_) => Err(FaultLine::of_word(Argument::Accept)),
     }
 }
 
-fn read_diff<'a>(words: &ArgMatches<'a>) -> Result<Request<'a>, FaultLine>
-    ensures { result_map task_of result ≡ diff_in (rows_of (found_of words.now)) }
+fn read_diff<'a>(words: &ArgMatches<'a>) -> Result<Question<'a>, FaultLine>
+    ensures { result_map query_of result ≡ diff_in (rows_of (found_of words.now)) }
 {
     let new = second(words, Argument::New)?;
     let old_after = asked(words, Argument::OldAfter)?;
     let new_after = asked(words, Argument::NewAfter)?;
     let only = asked(words, Argument::Only)?;
-    Ok(Request::Diff(Diff {
+    Ok(Question::Diff(Diff {
         new,
         old_after,
         new_after,
@@ -303,26 +342,34 @@ fn read_diff<'a>(words: &ArgMatches<'a>) -> Result<Request<'a>, FaultLine>
     }))
 }
 
-fn read_plan<'a>(words: &ArgMatches<'a>) -> Result<Request<'a>, FaultLine>
-    ensures { result_map task_of result ≡ plan_in (rows_of (found_of words.now)) }
+/// Returns what is asked of the writes of a plan.
+fn read_wanted(words: &ArgMatches) -> Wanted
+    ensures { result ≡ wanted_in (rows_of (found_of words.now)) }
+{
+    Wanted {
+        aim: read_aim(words),
+        form: if is_set(words, Argument::AsArray) {
+            Form::Array
+        } else {
+            Form::Script
+        },
+    }
+}
+
+fn read_plan<'a>(plan: &'a str, words: &ArgMatches<'a>) -> Result<Request<'a>, FaultLine>
+    ensures { result_map task_of result ≡ plan_in plan.now (rows_of (found_of words.now)) }
 {
     if is_set(words, Argument::Of) {
-        return read_plan_of(words);
+        return read_plan_of(plan, words);
     }
     let from = read_from(words)?;
     let hart = read_hart(words)?;
-    let aim = read_aim(words);
-    let form = if is_set(words, Argument::AsArray) {
-        Form::Array
-    } else {
-        Form::Script
-    };
-    Ok(Request::Plan(Plan {
+    Ok(Request::Print(Printed::Plan(Plan {
+        plan,
         from,
         hart,
-        aim,
-        form,
-    }))
+        wanted: read_wanted(words),
+    })))
 }
 
 /// Returns the script that leaves the registers to begin with, which has a hart of its own.
@@ -339,11 +386,11 @@ fn read_from<'a>(words: &ArgMatches<'a>) -> Result<Option<&'a str>, FaultLine>
 }
 
 /// Returns the plan of a script, whose hart and `mseccfg` are the script's own.
-fn read_plan_of<'a>(words: &ArgMatches) -> Result<Request<'a>, FaultLine>
-    ensures { result_map task_of result ≡ plan_of_in (rows_of (found_of words.now)) }
+fn read_plan_of<'a>(script: &'a str, words: &ArgMatches) -> Result<Request<'a>, FaultLine>
+    ensures { result_map task_of result ≡ plan_of_in script.now (rows_of (found_of words.now)) }
 {
     if says_hart(words) || says_aim(words) || is_set(words, Argument::AsArray) {
         return Err(FaultLine::from(Refusal::BadWord));
     }
-    Ok(Request::PlanOf)
+    Ok(Request::Print(Printed::PlanOf(script)))
 }

@@ -168,7 +168,6 @@ impl From<AnswerFault> for Failure {
             AnswerFault::Text(fault) => Failure::at(fault.kind, Place::PlanRow(fault)),
             AnswerFault::Script(fault) => Failure::from(ReportFault::Script(fault)),
             AnswerFault::Plan(fault) => Failure::at(fault.refusal(), Place::of_plan(fault)),
-            AnswerFault::Output => Failure::from(Refusal::Output),
         }
     }
 }

@@ -1,29 +1,76 @@
-//! The program's answers to a command that is asked of each hart of a folder.
+//! The answers to a question about one script, or about each script of a folder, as whole rows.
 
-ghost use Rattle.std.specs.Prelude.{◌≡◌, [], IfErr, IfOk, Some, string_bytes, unwrap_or};
-ghost use Rattle.pmp_tool.specs.CommandAnswers.{CommandAnswers};
-ghost use Rattle.pmp_tool.specs.Commands.{task_of};
+ghost use Rattle.std.specs.Prelude.{◌≡◌, ◌++◌, ◌⊎◌, IfErr, IfOk, List, None, map, option_map, string_bytes, unwrap_or, []};
+ghost use Rattle.pmp_names.specs.WholeRows.{whole};
+ghost use Rattle.pmp_text.specs.Cells.{RowValue};
+ghost use Rattle.pmp_text.specs.MetNames.{given_names};
+ghost use Rattle.pmp_text.specs.declared.refusal.Refusal.TheVariants.{Memory};
+ghost use Rattle.pmp_tool.specs.Commands.{query_of};
+ghost use Rattle.pmp_tool.specs.Failures.{refused};
 ghost use Rattle.pmp_tool.specs.HartSteps.{FailsOn, IsAnsweredOn, with_new};
-ghost use Rattle.pmp_tool.specs.Failures.{of_hart};
-ghost use Rattle.pmp_tool.specs.NamedAnswers.{FailsApart, OneAnswer, OneFails};
+ghost use Rattle.pmp_tool.specs.Harts.{HartsFail, HartsSay, new_script, path_on};
 ghost use Rattle.pmp_tool.specs.NumberedInputs.{paths_for};
-ghost use Rattle.pmp_tool.specs.declared.failure.Failure.{Failure};
-ghost use Rattle.pmp_tool.specs.Harts.{HartsAnswer, HartsFail, new_script, path_on};
+ghost use Rattle.pmp_tool.specs.Questions.{PathFails, PathSays, names_for, takes_names};
 
-use crate::answer::answer;
-use crate::command::Command;
 use crate::failure::Failure;
 use crate::harts::{Harts, new_script};
 use crate::inputs::Inputs;
-use crate::naming::{Naming, with_names};
 use crate::outcome::Outcome;
-use crate::request::{Diff, Request};
-use pmp_names::{HartName, append_rows};
-use pmp_text::write_out;
+use crate::questions::{Asking, add_answer};
+use crate::request::{Diff, Question};
+use pmp_names::{Beside, HartName, append_whole};
+use pmp_text::{AddressNames, AnswerRow};
 use std::alloc::{AllocError, Global};
-use std::io::Write;
-use std::sync::Wait;
-use std::thread::Threads;
+
+/// Whether rows have the names of their ranges, if names are given.
+fn takes_names(question: Question<'_>) -> bool
+    ensures { result ≡ takes_names question.entry }
+{
+    match question {
+        Question::List(..) | Question::Policy(_) | Question::Lint(_) | Question::Diff(_) => true,
+        Question::Check(_) | Question::Why(_) | Question::Audit(_) | Question::Writes(_) => false,
+    }
+}
+
+/// Returns the names that the rows of a question have.
+fn names_for<'a>(asking: Asking<'a>) -> Option<AddressNames<'a>>
+    ensures { given_names result ≡ names_for asking.entry.question (given_names asking.entry.names) }
+{
+    if takes_names(asking.question) {
+        asking.names
+    } else {
+        None
+    }
+}
+
+/// Appends the rows of a question about one script, with the name of its hart, if it is one of several, and the names
+/// of their ranges.
+pub fn answer_whole<I: Inputs>(
+    asking: Asking<'_>,
+    hart: Option<&str>,
+    inputs: &mut I,
+    rows: &mut Vec<AnswerRow>,
+) -> Result<Outcome, Failure>
+    ensures ok { IfOk result (λ outcome. (own : List RowValue)
+        × PathSays (paths_for (given_names asking.entry.names) (I.paths inputs.old)) asking.entry.path.now
+        asking.entry.question outcome own
+        × (rows.new.items ≡ rows.old.items ++ map (whole (option_map (λ name. name.now) hart.entry)
+        (names_for asking.entry.question (given_names asking.entry.names))) own)) }
+    ensures err { IfErr result (λ failure. (failure ≡ refused Memory) ⊎ PathFails
+        (paths_for (given_names asking.entry.names) (I.paths inputs.old)) asking.entry.path.now asking.entry.question
+        failure) }
+    ensures paths { I.paths inputs.new ≡ I.paths inputs.old }
+{
+    let mut own = Vec::new(asking.alloc);
+    let outcome = add_answer(asking, inputs, &mut own)?;
+    let beside = Beside {
+        alloc: asking.alloc,
+        hart,
+        names: names_for(asking),
+    };
+    append_whole(rows, own, beside)?;
+    Ok(outcome)
+}
 
 /// Returns the path, extended to that of a hart's script if it is the path of a folder.
 pub fn path_on(alloc: Global, is_folder: bool, path: &str, name: &str) -> Result<String, AllocError>
@@ -41,168 +88,82 @@ pub fn path_on(alloc: Global, is_folder: bool, path: &str, name: &str) -> Result
 fn new_on(
     alloc: Global,
     harts: &Harts,
-    request: Request<'_>,
+    question: Question<'_>,
     name: &str,
 ) -> Result<String, AllocError>
-    ensures { IfOk result (λ on. string_bytes on ≡ path_on harts.now.new (unwrap_or (new_script request.entry) [])
+    ensures { IfOk result (λ on. string_bytes on ≡ path_on harts.now.new (unwrap_or (new_script question.entry) [])
         name.now) }
 {
-    match new_script(request) {
+    match new_script(question) {
         Some(path) => path_on(alloc, harts.new, path, name),
         None => path_on(alloc, harts.new, "", name),
     }
 }
 
-impl<'a> Request<'a> {
+impl<'a> Question<'a> {
     /// Returns the same for the new script at this path, if there is one.
-    fn with_new(self, new: &'a str) -> Request<'a>
-        ensures { task_of result ≡ with_new new.now (task_of self.entry) }
+    fn with_new(self, new: &'a str) -> Question<'a>
+        ensures query { query_of result ≡ with_new new.now (query_of self.entry) }
+        ensures names { takes_names result ≡ takes_names self.entry }
     {
         match self {
-            Request::Diff(asked) => Request::Diff(Diff { new, ..asked }),
-            request => request,
+            Question::Diff(asked) => Question::Diff(Diff { new, ..asked }),
+            question => question,
         }
     }
 }
 
-/// Answers a command whose rows are kept in memory, and returns what it did, and the rows.
-pub fn answer_apart<R: Threads + Wait + Sync, I: Inputs>(
-    rt: &R,
-    alloc: Global,
-    command: Command<'_>,
-    naming: Option<Naming<'_>>,
-    inputs: &mut I,
-) -> Result<(Outcome, Vec<u8>), Failure>
-    ensures ok { IfOk result (λ both. CommandAnswers (paths_for naming.entry (I.paths inputs.old)) command.entry
-        (Some []) (Some both.1.items) both.0) }
-    ensures err { IfErr result (FailsApart (paths_for naming.entry (I.paths inputs.old)) command.entry) }
-    ensures paths { I.paths inputs.new ≡ I.paths inputs.old }
-{
-    let mut rows = Vec::new(alloc);
-    match answer(rt, alloc, command, naming, inputs, &mut rows) {
-        Ok(outcome) => Ok((outcome, rows)),
-        Err(failure) => Err(failure.in_memory()),
-    }
-}
-
-/// Answers a command of one hart, whose rows may be followed by names.
-pub fn answer_one<R: Threads + Wait + Sync, I: Inputs, O: Write>(
-    rt: &R,
-    alloc: Global,
-    command: Command<'_>,
-    naming: Option<Naming<'_>>,
-    inputs: &mut I,
-    out: &mut O,
-) -> Result<Outcome, Failure>
-    ensures ok { IfOk result (OneAnswer (paths_for naming.entry (I.paths inputs.old)) command.entry
-        (O.contents out.old) (O.contents out.new) naming.entry) }
-    ensures err { IfErr result (OneFails (paths_for naming.entry (I.paths inputs.old)) command.entry
-        (O.contents out.old) (O.contents out.new) naming.entry) }
-    ensures paths { I.paths inputs.new ≡ I.paths inputs.old }
-{
-    match naming {
-        None => answer(rt, alloc, command, None, inputs, out),
-        Some(naming) => answer_named(rt, alloc, command, naming, inputs, out),
-    }
-}
-
-/// Answers a command of one hart, whose rows are followed by names.
-fn answer_named<R: Threads + Wait + Sync, I: Inputs, O: Write>(
-    rt: &R,
-    alloc: Global,
-    command: Command<'_>,
-    naming: Naming<'_>,
-    inputs: &mut I,
-    out: &mut O,
-) -> Result<Outcome, Failure>
-    ensures ok { IfOk result (OneAnswer (paths_for (Some naming.entry) (I.paths inputs.old)) command.entry
-        (O.contents out.old) (O.contents out.new) (Some naming.entry)) }
-    ensures err { IfErr result (OneFails (paths_for (Some naming.entry) (I.paths inputs.old)) command.entry
-        (O.contents out.old) (O.contents out.new) (Some naming.entry)) }
-    ensures paths { I.paths inputs.new ≡ I.paths inputs.old }
-{
-    let (outcome, rows) = answer_apart(rt, alloc, command, Some(naming), inputs)?;
-    let named = with_names(alloc, Some(naming), rows)?;
-    write_out(out, &named)?;
-    Ok(outcome)
-}
-
-/// Answers a command of one hart of a folder, and returns what it did, and the rows.
-fn answer_alone<R: Threads + Wait + Sync, I: Inputs>(
-    rt: &R,
-    alloc: Global,
-    command: Command<'_>,
-    naming: Option<Naming<'_>>,
+/// Appends the rows about one hart of a folder, each behind its name.
+fn answer_on<I: Inputs>(
+    asking: Asking<'_>,
+    harts: &Harts,
     hart: &HartName,
     inputs: &mut I,
-) -> Result<(Outcome, Vec<u8>), Failure>
-    ensures ok { IfOk result (λ both. CommandAnswers (paths_for naming.entry (I.paths inputs.old)) command.entry
-        (Some []) (Some both.1.items) both.0) }
-    ensures err { IfErr result (λ failure. (alone : Failure) × FailsApart (paths_for naming.entry (I.paths inputs.old))
-        command.entry alone × (failure ≡ of_hart hart.now.name alone)) }
+    rows: &mut Vec<AnswerRow>,
+) -> Result<Outcome, Failure>
+    ensures ok { IfOk result (IsAnsweredOn (paths_for (given_names asking.entry.names) (I.paths inputs.old))
+        asking.entry.path.now asking.entry.question harts.now (given_names asking.entry.names) hart.now.name.bytes
+        rows.old.items rows.new.items) }
+    ensures err { IfErr result (FailsOn (paths_for (given_names asking.entry.names) (I.paths inputs.old))
+        asking.entry.path.now asking.entry.question harts.now hart.now) }
     ensures paths { I.paths inputs.new ≡ I.paths inputs.old }
 {
+    let name = hart.name.as_str();
+    let path = path_on(asking.alloc, harts.old, asking.path, name)?;
+    let new = new_on(asking.alloc, harts, asking.question, name)?;
+    let one = Asking {
+        alloc: asking.alloc,
+        names: asking.names,
+        path: path.as_str(),
+        question: asking.question.with_new(new.as_str()),
+    };
     inputs.forget();
-    match answer_apart(rt, alloc, command, naming, inputs) {
-        Ok(both) => Ok(both),
+    match answer_whole(one, Some(name), inputs, rows) {
+        Ok(outcome) => Ok(outcome),
         Err(failure) => Err(failure.of_hart(hart.name)),
     }
 }
 
-/// Answers a command of one hart of a folder, and appends the rows, each after the hart's name.
-fn answer_on<R: Threads + Wait + Sync, I: Inputs>(
-    rt: &R,
-    alloc: Global,
-    command: Command<'_>,
-    naming: Option<Naming<'_>>,
-    harts: &Harts,
-    hart: &HartName,
-    inputs: &mut I,
-    rows: &mut Vec<u8>,
-) -> Result<Outcome, Failure>
-    ensures ok { IfOk result (IsAnsweredOn (paths_for naming.entry (I.paths inputs.old)) command.entry naming.entry
-        harts.now hart.now.name.bytes rows.old.items rows.new.items) }
-    ensures err { IfErr result (FailsOn (paths_for naming.entry (I.paths inputs.old)) command.entry harts.now
-        hart.now) }
-    ensures paths { I.paths inputs.new ≡ I.paths inputs.old }
-{
-    let name = hart.name.as_str();
-    let script = path_on(alloc, harts.old, command.script, name)?;
-    let new = new_on(alloc, harts, command.request, name)?;
-    let one = Command {
-        script: script.as_str(),
-        request: command.request.with_new(new.as_str()),
-    };
-    let (outcome, alone) = answer_alone(rt, alloc, one, naming, hart, inputs)?;
-    let named = with_names(alloc, naming, alone)?;
-    append_rows(rows, name, &named)?;
-    Ok(outcome)
-}
-
-/// Answers a command of each hart, and then writes the rows of all.
-pub fn answer_harts<R: Threads + Wait + Sync, I: Inputs, O: Write>(
-    rt: &R,
-    alloc: Global,
-    command: Command<'_>,
-    naming: Option<Naming<'_>>,
+/// Answers a question about each hart, and returns the rows of all.
+pub fn answer_harts<I: Inputs>(
+    asking: Asking<'_>,
     harts: &Harts,
     inputs: &mut I,
-    out: &mut O,
-) -> Result<Outcome, Failure>
-    ensures ok { IfOk result (HartsAnswer (paths_for naming.entry (I.paths inputs.old)) command.entry naming.entry
-        harts.now (O.contents out.old) (O.contents out.new)) }
-    ensures err { IfErr result (HartsFail (paths_for naming.entry (I.paths inputs.old)) command.entry naming.entry
-        harts.now (O.contents out.old) (O.contents out.new)) }
+) -> Result<(Outcome, Vec<AnswerRow>), Failure>
+    ensures ok { IfOk result (λ both. HartsSay (paths_for (given_names asking.entry.names) (I.paths inputs.old))
+        asking.entry.path.now asking.entry.question harts.now
+        (names_for asking.entry.question (given_names asking.entry.names)) both.0 both.1.items) }
+    ensures err { IfErr result (HartsFail (paths_for (given_names asking.entry.names) (I.paths inputs.old))
+        asking.entry.path.now asking.entry.question harts.now) }
     ensures paths { I.paths inputs.new ≡ I.paths inputs.old }
 {
-    let mut rows = Vec::new(alloc);
+    let mut rows = Vec::new(asking.alloc);
     let mut outcome = Outcome::Listed;
     let mut rest = harts.names.as_slice();
     while let Some((hart, behind)) = rest.split_first() {
-        let one = answer_on(rt, alloc, command, naming, harts, hart, inputs, &mut rows)?;
+        let one = answer_on(asking, harts, hart, inputs, &mut rows)?;
         outcome = outcome.worse(one);
         rest = behind;
     }
-    write_out(out, &rows)?;
-    Ok(outcome)
+    Ok((outcome, rows))
 }

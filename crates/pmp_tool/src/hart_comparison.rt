@@ -1,93 +1,86 @@
 //! The harts of a folder compared with its first one.
 
-ghost use Rattle.std.specs.Prelude.{◌≡◌, IfErr, IfOk};
-ghost use Rattle.pmp_tool.specs.HartComparisons.{CantCompare, FolderAnswer, FolderFails, HartsCompare, comparison};
+ghost use Rattle.std.specs.Prelude.{◌≡◌, IfErr, IfOk, true};
+ghost use Rattle.pmp_text.specs.MetNames.{given_names};
+ghost use Rattle.pmp_tool.specs.HartComparisons.{ComparisonFails, ComparisonSays};
+ghost use Rattle.pmp_names.specs.HartLists.{names_of};
+ghost use Rattle.pmp_tool.specs.Harts.{IsOfHarts};
 ghost use Rattle.pmp_tool.specs.NumberedInputs.{paths_for};
 
-use crate::command::Command;
 use crate::failure::Failure;
 use crate::hart_answers::{answer_harts, path_on};
-use crate::harts::Harts;
+use crate::harts::{Harts, harts_at};
 use crate::inputs::Inputs;
-use crate::naming::Naming;
 use crate::outcome::Outcome;
-use crate::request::{Diff, Request};
+use crate::questions::{Asking, script_at};
+use crate::request::{Diff, Question};
 use pmp_audit::AskedChanges;
-use pmp_text::Refusal;
+use pmp_names::HartName;
+use pmp_text::{AddressNames, AnswerRow, Refusal};
 use std::alloc::Global;
-use std::io::Write;
-use std::sync::Wait;
-use std::thread::Threads;
 
-/// Whether the harts of a folder are compared with each other, and whether their locks are too.
-fn comparison(request: Request<'_>) -> Option<bool>
-    ensures { result ≡ comparison request.entry }
-{
-    match request {
-        Request::Harts(has_locks) => Some(has_locks),
-        _ => None,
-    }
+/// A comparison of the harts of a folder, and the names that addresses have, if they are given.
+#[derive(Clone, Copy)]
+pub struct Comparison<'a> {
+    pub alloc: Global,
+    pub names: Option<AddressNames<'a>>,
+    pub folder: &'a str,
+    pub has_locks: bool,
 }
 
-/// Answers a command about the harts of a folder.
-pub fn answer_folder<R: Threads + Wait + Sync, I: Inputs, O: Write>(
-    rt: &R,
-    alloc: Global,
-    command: Command<'_>,
-    naming: Option<Naming<'_>>,
-    harts: Harts,
+/// Compares each hart of a folder with the first one.
+pub fn compare_harts<I: Inputs>(
+    asked: Comparison<'_>,
     inputs: &mut I,
-    out: &mut O,
-) -> Result<Outcome, Failure>
-    ensures ok { IfOk result (FolderAnswer (paths_for naming.entry (I.paths inputs.old)) command.entry naming.entry
-        harts (O.contents out.old) (O.contents out.new)) }
-    ensures err { IfErr result (FolderFails (paths_for naming.entry (I.paths inputs.old)) command.entry naming.entry
-        harts (O.contents out.old) (O.contents out.new)) }
+) -> Result<(Outcome, Vec<AnswerRow>), Failure>
+    ensures ok { IfOk result (λ both. ComparisonSays (paths_for (given_names asked.entry.names) (I.paths inputs.old))
+        asked.entry.folder.now asked.entry.has_locks (given_names asked.entry.names) both.0 both.1.items) }
+    ensures err { IfErr result (ComparisonFails (paths_for (given_names asked.entry.names) (I.paths inputs.old))
+        asked.entry.folder.now asked.entry.has_locks) }
     ensures paths { I.paths inputs.new ≡ I.paths inputs.old }
 {
-    match comparison(command.request) {
-        Some(has_locks) => compare_harts(rt, alloc, command, has_locks, naming, harts, inputs, out),
-        None => answer_harts(rt, alloc, command, naming, &harts, inputs, out),
-    }
-}
-
-/// Compares each hart with the first one.
-fn compare_harts<R: Threads + Wait + Sync, I: Inputs, O: Write>(
-    rt: &R,
-    alloc: Global,
-    command: Command<'_>,
-    has_locks: bool,
-    naming: Option<Naming<'_>>,
-    harts: Harts,
-    inputs: &mut I,
-    out: &mut O,
-) -> Result<Outcome, Failure>
-    ensures ok { IfOk result (HartsCompare (paths_for naming.entry (I.paths inputs.old)) command.entry naming.entry harts
-        (O.contents out.old) (O.contents out.new) has_locks) }
-    ensures err { IfErr result (CantCompare (paths_for naming.entry (I.paths inputs.old)) command.entry naming.entry harts
-        (O.contents out.old) (O.contents out.new) has_locks) }
-    ensures paths { I.paths inputs.new ≡ I.paths inputs.old }
-{
-    let Some(first) = harts.names.first() else {
+    let Some(names) = harts_at(asked.alloc, inputs, asked.folder, None)? else {
+        script_at(inputs, asked.folder)?;
         return Err(Failure::from(Refusal::BadFolder));
     };
-    let script = path_on(alloc, true, command.script, first.name.as_str())?;
-    let one = Command {
-        script: script.as_str(),
-        request: Request::Diff(Diff {
-            new: command.script,
+    compare_all(asked, names, inputs)
+}
+
+/// Compares each of these harts with the first one.
+fn compare_all<I: Inputs>(
+    asked: Comparison<'_>,
+    names: Vec<HartName>,
+    inputs: &mut I,
+) -> Result<(Outcome, Vec<AnswerRow>), Failure>
+    requires { IsOfHarts ((I.paths inputs.old).folders asked.folder.now) true (names_of names.items) }
+    ensures ok { IfOk result (λ both. ComparisonSays (paths_for (given_names asked.entry.names) (I.paths inputs.old))
+        asked.entry.folder.now asked.entry.has_locks (given_names asked.entry.names) both.0 both.1.items) }
+    ensures err { IfErr result (ComparisonFails (paths_for (given_names asked.entry.names) (I.paths inputs.old))
+        asked.entry.folder.now asked.entry.has_locks) }
+    ensures paths { I.paths inputs.new ≡ I.paths inputs.old }
+{
+    let Some(first) = names.first() else {
+        return Err(Failure::from(Refusal::BadFolder));
+    };
+    let path = path_on(asked.alloc, true, asked.folder, first.name.as_str())?;
+    let asking = Asking {
+        alloc: asked.alloc,
+        names: asked.names,
+        path: path.as_str(),
+        question: Question::Diff(Diff {
+            new: asked.folder,
             old_after: None,
             new_after: None,
             changes: AskedChanges {
                 only: None,
-                has_locks,
+                has_locks: asked.has_locks,
             },
         }),
     };
-    let others = Harts {
+    let harts = Harts {
         old: false,
         new: true,
-        names: harts.names,
+        names,
     };
-    answer_harts(rt, alloc, one, naming, &others, inputs, out)
+    answer_harts(asking, &harts, inputs)
 }

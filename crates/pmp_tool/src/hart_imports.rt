@@ -1,32 +1,18 @@
 //! The scripts of all harts of a log, in a new folder.
 
-ghost use Rattle.std.specs.Prelude.{◌≡◌, ◌++◌, ◌∷◌, [], IfErr, IfOk, OnErr, OnOk, option_map};
-ghost use Rattle.pmp_tool.specs.HartImports.{AddsHart, AreOf, CantMake, IsFound, IsUnfound, Makes, OneFails, new_folder};
-ghost use Rattle.pmp_tool.specs.HartImports.{writers};
+ghost use Rattle.std.specs.Prelude.{◌≡◌, ◌++◌, ◌∷◌, [], IfErr, IfOk, OnErr, OnOk};
+ghost use Rattle.pmp_tool.specs.HartImports.{AddsHart, AreOf, CantMake, IsFound, IsUnfound, Makes, OneFails, writers};
 
-use crate::command::Command;
 use crate::failure::Failure;
-use crate::hart_answers::answer_apart;
 use crate::hart_script::HartScript;
 use crate::inputs::Inputs;
 use crate::note::Note;
 use crate::outcome::Outcome;
-use crate::request::{Import, Request};
+use crate::request::Import;
+use crate::streams::write_import;
 use pmp_import::{Format, Options, Survey, survey_log};
 use pmp_text::Refusal;
 use std::alloc::{AllocError, Global};
-use std::sync::Wait;
-use std::thread::Threads;
-
-/// Returns the folder that a request creates, and the log to read.
-pub fn new_folder<'a>(request: Request<'a>) -> Option<(Import<'a>, &'a str)>
-    ensures { option_map (λ both. (both.0, both.1.now)) result ≡ new_folder request.entry }
-{
-    match request {
-        Request::Import(import) => Some((import, import.folder?)),
-        _ => None,
-    }
-}
 
 /// Returns the survey of the log at a path, if no hart is asked for.
 fn survey_at<I: Inputs>(
@@ -44,26 +30,26 @@ fn survey_at<I: Inputs>(
 }
 
 /// Appends the script of one hart.
-fn add_hart<R: Threads + Wait + Sync, I: Inputs>(
-    rt: &R,
+fn add_hart<I: Inputs>(
     alloc: Global,
-    command: Command<'_>,
     import: Import<'_>,
     hart: u64,
     inputs: &mut I,
     all: &mut Vec<HartScript>,
 ) -> Result<(), Failure>
-    ensures ok { OnOk result (AddsHart (I.paths inputs.old) command.entry import.entry hart all.old.items
-        all.new.items) }
-    ensures err { IfErr result (OneFails (I.paths inputs.old) command.entry import.entry) }
+    ensures ok { OnOk result (AddsHart (I.paths inputs.old) import.entry hart all.old.items all.new.items) }
+    ensures err { IfErr result (OneFails (I.paths inputs.old) import.entry) }
     ensures paths { I.paths inputs.new ≡ I.paths inputs.old }
 {
     let options = Options {
         hart: Some(hart),
         ..import.options
     };
-    let request = Request::Import(Import { options, ..import });
-    let (_, text) = answer_apart(rt, alloc, Command { request, ..command }, None, inputs)?;
+    let mut text = Vec::new(alloc);
+    match write_import(alloc, Import { options, ..import }, inputs, &mut text) {
+        Ok(_) => {}
+        Err(failure) => return Err(failure.in_memory()),
+    }
     keep(all, HartScript { hart, text })?;
     Ok(())
 }
@@ -75,17 +61,14 @@ fn keep(all: &mut Vec<HartScript>, script: HartScript) -> Result<(), AllocError>
 }
 
 /// Returns the scripts of the harts that have writes.
-fn import_each<R: Threads + Wait + Sync, I: Inputs>(
-    rt: &R,
+fn import_each<I: Inputs>(
     alloc: Global,
-    command: Command<'_>,
     import: Import<'_>,
     survey: &Survey,
     inputs: &mut I,
 ) -> Result<Vec<HartScript>, Failure>
-    ensures ok { IfOk result (λ all. AreOf (I.paths inputs.old) command.entry import.entry (writers survey.now)
-        all.items) }
-    ensures err { IfErr result (OneFails (I.paths inputs.old) command.entry import.entry) }
+    ensures ok { IfOk result (λ all. AreOf (I.paths inputs.old) import.entry (writers survey.now) all.items) }
+    ensures err { IfErr result (OneFails (I.paths inputs.old) import.entry) }
     ensures paths { I.paths inputs.new ≡ I.paths inputs.old }
 {
     let mut all = Vec::new(alloc);
@@ -93,7 +76,7 @@ fn import_each<R: Threads + Wait + Sync, I: Inputs>(
     let mut rest = survey.writes.as_slice();
     while let Some((count, behind)) = rest.split_first() {
         if *count > 0 {
-            add_hart(rt, alloc, command, import, hart, inputs, &mut all)?;
+            add_hart(alloc, import, hart, inputs, &mut all)?;
         }
         hart += 1;
         rest = behind;
@@ -102,20 +85,18 @@ fn import_each<R: Threads + Wait + Sync, I: Inputs>(
 }
 
 /// Creates a folder with a script for each hart that has writes in a log.
-pub fn import_harts<R: Threads + Wait + Sync, I: Inputs>(
-    rt: &R,
+pub fn import_harts<I: Inputs>(
     alloc: Global,
-    command: Command<'_>,
     import: Import<'_>,
     folder: &str,
     inputs: &mut I,
 ) -> Result<Outcome, Failure>
-    ensures ok { IfOk result (Makes (I.paths inputs.old) command.entry import.entry folder.now (I.paths inputs.new)) }
-    ensures err { IfErr result (CantMake (I.paths inputs.old) command.entry import.entry) }
+    ensures ok { IfOk result (Makes (I.paths inputs.old) import.entry folder.now (I.paths inputs.new)) }
+    ensures err { IfErr result (CantMake (I.paths inputs.old) import.entry) }
     ensures unchanged { OnErr result (I.paths inputs.new ≡ I.paths inputs.old) }
 {
     let survey = survey_at(alloc, import.log, import.format, inputs)?;
-    let all = import_each(rt, alloc, command, import, &survey, inputs)?;
+    let all = import_each(alloc, import, &survey, inputs)?;
     if all.is_empty() {
         return Err(Failure::from(Refusal::NoHart));
     }

@@ -1,4 +1,4 @@
-//! The harts that a command is asked of, if a folder of scripts is given instead of a script.
+//! The harts that a question is asked of, if a folder of scripts is given instead of a script.
 
 ghost use Rattle.std.specs.Prelude.{◌≡◌, IfErr, IfOk, Some, map, option_map, string_bytes};
 ghost use Rattle.pmp_names.specs.HartLists.{names_of};
@@ -6,69 +6,54 @@ ghost use Rattle.pmp_tool.specs.Finding.{AreFoundAt, AreFoundNew, AreJoined, Are
 ghost use Rattle.pmp_names.specs.HartNames.{AreHarts};
 ghost use Rattle.pmp_tool.specs.Finding.{IsUnfit, IsUnlisted, names_in};
 ghost use Rattle.pmp_tool.specs.Inputs.{IsFolder};
-ghost use Rattle.pmp_tool.specs.Harts.{AreFound, AreUnfound, new_script, reads_stdin, second_input, takes_folder};
+ghost use Rattle.pmp_tool.specs.Harts.{AreFound, AreUnfound, new_script, reads_stdin, second_input};
 
-use crate::answer::old_side;
-use crate::command::Command;
 use crate::failure::Failure;
 use crate::inputs::Inputs;
-use crate::request::Request;
-use pmp_audit::{Side, View};
+use crate::questions::{Asking, old_side};
+use crate::request::Question;
+use pmp_audit::Side;
 use pmp_names::{HartName, are_same, read_harts};
 use pmp_text::Refusal;
 use std::alloc::Global;
 
-/// The harts that a command is asked of.
+/// The harts that a question is asked of.
 #[derive(Drop)]
 pub struct Harts {
-    /// Whether the path of the command's script is that of a folder.
+    /// Whether the path of the script is that of a folder.
     pub old: bool,
-    /// Whether the path of its new script is that of a folder.
+    /// Whether the path of the new script is that of a folder.
     pub new: bool,
     /// The names of their scripts in the folder, or in both.
     pub names: Vec<HartName>,
 }
 
-/// Whether a folder may be given instead of a script.
-fn takes_folder(request: Request<'_>) -> bool
-    ensures { result ≡ takes_folder request.entry }
-{
-    match request {
-        Request::Check(_) | Request::Why(_) | Request::Audit(_) | Request::Policy(_) => true,
-        Request::Show(View::Runs | View::Entries, _) | Request::Writes(_) | Request::Diff(_) =>
-            true,
-        Request::Lint(_) | Request::Harts(_) => true,
-        Request::LongAudit(_) | Request::Show(..) | Request::Import(_) => false,
-        Request::Plan(_) | Request::PlanOf | Request::PolicyFrom => false,
-    }
-}
-
 /// Returns the path of the new one of two scripts.
-pub fn new_script<'a>(request: Request<'a>) -> Option<&'a str>
-    ensures { option_map (λ path. path.now) result ≡ new_script request.entry }
+pub fn new_script<'a>(question: Question<'a>) -> Option<&'a str>
+    ensures { option_map (λ path. path.now) result ≡ new_script question.entry }
 {
-    match request {
-        Request::Diff(asked) => Some(asked.new),
+    match question {
+        Question::Diff(asked) => Some(asked.new),
         _ => None,
     }
 }
 
 /// Returns the path of the second input.
-fn second_input<'a>(request: Request<'a>) -> Option<&'a str>
-    ensures { option_map (λ path. path.now) result ≡ second_input request.entry }
+fn second_input<'a>(question: Question<'a>) -> Option<&'a str>
+    ensures { option_map (λ path. path.now) result ≡ second_input question.entry }
 {
-    match request {
-        Request::Audit(asked) => Some(asked.trace),
-        Request::Policy(asked) => Some(asked.path),
-        _ => new_script(request),
+    match question {
+        Question::Audit(asked) => Some(asked.trace),
+        Question::Policy(asked) => Some(asked.path),
+        _ => new_script(question),
     }
 }
 
 /// Whether an input is standard input.
-fn reads_stdin(command: Command<'_>) -> bool
-    ensures { result ≡ reads_stdin command.entry }
+fn reads_stdin(path: &str, question: Question<'_>) -> bool
+    ensures { result ≡ reads_stdin path.now question.entry }
 {
-    command.script == "stdin" || second_input(command.request).is_some_and(|path| path == "stdin")
+    path == "stdin" || second_input(question).is_some_and(|path| path == "stdin")
 }
 
 /// Returns the files of the folder at a path, if there is one.
@@ -96,7 +81,7 @@ fn harts_of(alloc: Global, files: &[String], side: Option<Side>) -> Result<Vec<H
 }
 
 /// Returns the harts of the folder at a path, if there is one: of two scripts, at the path of the one on this side.
-fn harts_at<I: Inputs>(
+pub fn harts_at<I: Inputs>(
     alloc: Global,
     inputs: &mut I,
     path: &str,
@@ -116,14 +101,14 @@ fn harts_at<I: Inputs>(
 fn new_harts<I: Inputs>(
     alloc: Global,
     inputs: &mut I,
-    request: Request<'_>,
+    question: Question<'_>,
 ) -> Result<Option<Vec<HartName>>, Failure>
-    ensures found { IfOk result (λ harts. AreFoundNew (I.paths inputs.old).folders (new_script request.entry)
+    ensures found { IfOk result (λ harts. AreFoundNew (I.paths inputs.old).folders (new_script question.entry)
         (names_in harts)) }
-    ensures unfound { IfErr result (AreUnfoundNew (I.paths inputs.old).folders (new_script request.entry)) }
+    ensures unfound { IfErr result (AreUnfoundNew (I.paths inputs.old).folders (new_script question.entry)) }
     ensures paths { I.paths inputs.new ≡ I.paths inputs.old }
 {
-    match new_script(request) {
+    match new_script(question) {
         Some(path) => harts_at(alloc, inputs, path, Some(Side::New)),
         None => Ok(None),
     }
@@ -166,25 +151,25 @@ fn both(names: Vec<HartName>, others: &[HartName]) -> Result<Harts, Refusal>
 }
 
 impl Harts {
-    /// Returns the harts that a command is asked of, if a folder is given instead of a script.
-    pub fn find<I: Inputs>(
-        alloc: Global,
-        command: Command<'_>,
-        inputs: &mut I,
-    ) -> Result<Option<Harts>, Failure>
-        ensures found { IfOk result (AreFound (I.paths inputs.old).folders command.entry) }
-        ensures unfound { IfErr result (AreUnfound (I.paths inputs.old).folders command.entry) }
+    /// Returns the harts that a question is asked of, if a folder is given instead of a script.
+    pub fn find<I: Inputs>(asking: Asking<'_>, inputs: &mut I) -> Result<Option<Harts>, Failure>
+        ensures found { IfOk result (AreFound (I.paths inputs.old).folders asking.entry.path.now asking.entry.question) }
+        ensures unfound { IfErr result
+            (AreUnfound (I.paths inputs.old).folders asking.entry.path.now asking.entry.question) }
         ensures paths { I.paths inputs.new ≡ I.paths inputs.old }
     {
-        if !takes_folder(command.request) {
-            return Ok(None);
-        }
-        let old = harts_at(alloc, inputs, command.script, old_side(command.request))?;
-        let new = new_harts(alloc, inputs, command.request)?;
+        let Asking {
+            alloc,
+            path,
+            question,
+            ..
+        } = asking;
+        let old = harts_at(alloc, inputs, path, old_side(question))?;
+        let new = new_harts(alloc, inputs, question)?;
         let Some(harts) = joined(old, new)? else {
             return Ok(None);
         };
-        if reads_stdin(command) {
+        if reads_stdin(path, question) {
             return Err(Failure::from(Refusal::BadWord));
         }
         Ok(Some(harts))

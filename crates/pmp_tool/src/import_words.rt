@@ -78,11 +78,10 @@ fn read_folder<'a>(
 }
 
 /// Returns the request for the script of a log.
-pub fn read_import<'a>(words: &ArgMatches<'a>) -> Result<Request<'a>, FaultLine>
-    ensures { result_map task_of result ≡ import_in (rows_of (found_of words.now)) }
+pub fn read_import<'a>(log: &'a str, words: &ArgMatches<'a>) -> Result<Request<'a>, FaultLine>
+    ensures { result_map task_of result ≡ import_in log.now (rows_of (found_of words.now)) }
 {
     let format = read_format(words)?;
-    let log = path(words, Argument::Script)?;
     let options = read_options(words)?;
     let folder = read_folder(words, log, options)?;
     Ok(Request::Import(Import {

@@ -1,7 +1,6 @@
 //! The command `pmp`, which decides accesses to physical memory like the PMP unit of one RISC-V hart.
 #![tactic(auto)]
 
-mod answer;
 mod argument;
 mod command;
 mod command_line;
@@ -23,15 +22,16 @@ mod import_words;
 mod inputs;
 mod jobs;
 mod kept;
-mod naming;
 mod note;
 mod numbered_inputs;
 mod outcome;
-mod plan_answers;
 mod progress;
+mod questions;
 mod request;
 mod row_format;
 mod run;
+mod streams;
+mod texts;
 mod topics;
 mod trace_input;
 mod word;

@@ -3,7 +3,7 @@
 ghost use Rattle.std.specs.Prelude.{◌≡◌, ◌==◌, if◌then◌else◌};
 ghost use Rattle.pmp_tool.specs.Notes.{note_of};
 ghost use Rattle.pmp_tool.specs.Harts.{worse};
-ghost use Rattle.pmp_tool.specs.CommandAnswers.{outcome_status};
+ghost use Rattle.pmp_tool.specs.Outcomes.{outcome_status};
 
 use crate::note::Note;
 use crate::request::Check;

@@ -1,14 +1,14 @@
-//! The requests about a script.
+//! The requests that words make.
 
 ghost use Rattle.std.specs.Prelude.{◌≡◌, ℕ, ◌≤◌, None, Some};
 ghost use Rattle.pmp_core.specs.Hart.{hart_fault};
 ghost use Rattle.pmp_share.specs.declared.opening.TheConstants.{CHECKERS};
 
 use crate::expected::Expected;
-use pmp_audit::{AskedChanges, Breaches, Pace, View};
+use pmp_audit::{AskedChanges, AskedVerdicts, Listing, View};
 use pmp_core::{Access, Profile};
 use pmp_import::{Format, Options};
-use pmp_plan::{Aim, Form};
+use pmp_plan::Wanted;
 use pmp_share::CHECKERS;
 use pmp_text::When;
 
@@ -46,6 +46,8 @@ pub struct Audit<'a> {
 /// An audit of a trace of any length, piece by piece.
 #[derive(Clone, Copy)]
 pub struct LongAudit<'a> {
+    /// The path of the script.
+    pub script: &'a str,
     /// The path of the trace.
     pub trace: &'a str,
     /// How many jobs run at a time, if that is given.
@@ -59,9 +61,7 @@ pub struct LongAudit<'a> {
 pub struct Policy<'a> {
     /// The path of the policy.
     pub path: &'a str,
-    /// How often it is checked.
-    pub pace: Pace,
-    pub breaches: Breaches,
+    pub asked: AskedVerdicts,
     /// Whether it must have a row.
     pub is_strict: bool,
 }
@@ -93,37 +93,61 @@ pub struct Diff<'a> {
 /// The writes for a plan.
 #[derive(Clone, Copy)]
 pub struct Plan<'a> {
+    /// The path of the plan.
+    pub plan: &'a str,
     /// The path of the script that leaves the registers they begin with, unless they follow a reset.
     pub from: Option<&'a str>,
     /// The hart that they are for after a reset.
     pub hart: Profile,
-    pub aim: Aim,
-    pub form: Form,
+    pub wanted: Wanted,
     ghost made: { hart_fault hart ≡ None },
 }
 
-/// A request about a script.
+/// A question about a script, which rows answer.
 #[derive(Clone, Copy)]
-pub enum Request<'a> {
+pub enum Question<'a> {
     Check(Check),
     Why(Why),
     Audit(Audit<'a>),
-    LongAudit(LongAudit<'a>),
     Policy(Policy<'a>),
-    /// The view, and when, unless after all publications.
-    Show(View, Option<When>),
+    /// What is listed, and when, unless after all publications.
+    List(Listing, Option<When>),
     /// The effect of each write, and the reasons that are accepted, separated by commas.
     Writes(&'a str),
     /// The findings in it, and the names of those that are accepted, separated by commas.
     Lint(&'a str),
     Diff(Diff<'a>),
+}
+
+/// A view of a script's registers.
+#[derive(Clone, Copy)]
+pub struct Show<'a> {
+    /// The path of the script.
+    pub script: &'a str,
+    pub view: View,
+    /// When, unless after all publications.
+    pub after: Option<When>,
+}
+
+/// A request whose answer is printed at once, with the paths of its inputs.
+#[derive(Clone, Copy)]
+pub enum Printed<'a> {
+    /// A question about a script, or about each script of a folder, one for each hart.
+    Ask(&'a str, Question<'a>),
     /// The differences between the harts of a folder, and whether those of their locks too.
-    Harts(bool),
-    Import(Import<'a>),
-    /// The writes for the plan that is given instead of the script.
+    Harts(&'a str, bool),
+    Show(Show<'a>),
     Plan(Plan<'a>),
     /// The plan that a script's registers implement.
-    PlanOf,
-    /// The policy of what is closed after the script's last publication.
-    PolicyFrom,
+    PlanOf(&'a str),
+    /// The policy of what is closed after a script's last publication.
+    PolicyFrom(&'a str),
+}
+
+/// A request.
+#[derive(Clone, Copy)]
+pub enum Request<'a> {
+    Print(Printed<'a>),
+    LongAudit(LongAudit<'a>),
+    Import(Import<'a>),
 }

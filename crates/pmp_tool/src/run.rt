@@ -6,30 +6,37 @@ ghost use Rattle.pmp_tool.specs.CommandLines.{AsksForPieces};
 ghost use Rattle.pmp_tool.specs.Explanations.{TellsAndExplains};
 ghost use Rattle.pmp_tool.specs.Failures.{failure_status};
 ghost use Rattle.pmp_tool.specs.Notes.{Notes};
-ghost use Rattle.pmp_tool.specs.CommandAnswers.{outcome_status};
+ghost use Rattle.pmp_tool.specs.Outcomes.{outcome_status};
 ghost use Rattle.clap.specs.Words.{subcommand_rows_of};
-ghost use Rattle.pmp_tool.specs.Runs.{Answers, Does, DoesAt, DoesNoRows, DoesNot, DoesNotAt, DoesRows, Done, Fails};
-ghost use Rattle.pmp_tool.specs.Runs.{TextFails, Undone};
+ghost use Rattle.pmp_text.specs.MetNames.{given_names, named};
+ghost use Rattle.pmp_tool.specs.NumberedInputs.{paths_for};
+ghost use Rattle.pmp_tool.specs.Runs.{Answers, Does, DoesNot, Fails, IsDone, IsUndone, TellingFails};
+ghost use Rattle.pmp_tool.specs.Texts.{TextSays};
+ghost use Rattle.pmp_tool.specs.declared.request.Request.TheVariants as request;
+ghost use Rattle.pmp_tool.specs.declared.request.Printed.TheVariants as printed;
+ghost use Rattle.pmp_tool.specs.declared.request.Question.TheVariants as question;
 ghost use Rattle.pmp_tool.specs.declared.failure.Failure.{Failure};
 ghost use Rattle.pmp_tool.specs.declared.outcome.Outcome.{Outcome};
 ghost use Rattle.pmp_tool.specs.declared.outcome.Outcome.TheVariants.{Told};
 
-use crate::command::{Command, names_path, read_command};
+use crate::command::{names_path, read_request};
 use crate::command_line::parse_words;
 use crate::explanation::tell_and_explain;
 use crate::failure::Failure;
 use crate::format_words::asked_format;
-use crate::hart_answers::answer_one;
-use crate::hart_comparison::answer_folder;
-use crate::hart_imports::{import_harts, new_folder};
+use crate::hart_imports::import_harts;
 use crate::harts::Harts;
 use crate::inputs::Inputs;
-use crate::naming::Naming;
 use crate::note::tell_note;
 use crate::outcome::Outcome;
+use crate::questions::Asking;
+use crate::request::{Audit, Printed, Question, Request};
+use crate::row_format::AskedFormat;
+use crate::streams::{Work, write_import, write_long_report, write_report};
+use crate::texts::{Setting, text_of};
 use clap::ArgMatches;
 use pmp_names::read_names;
-use pmp_text::{Refusal, write_out};
+use pmp_text::{AddressName, AddressNames, write_out};
 use std::alloc::Global;
 use std::io::Write;
 use std::sync::Wait;
@@ -106,7 +113,7 @@ fn run<R: Threads + Wait + Sync, I: Inputs, O: Write>(
     }
 }
 
-/// Answers the matches that `clap` found in the words. Rows that are to have another form are kept in memory first.
+/// Does what the matches ask for that `clap` found in the words.
 fn answer_words<R: Threads + Wait + Sync, I: Inputs, O: Write>(
     rt: &R,
     alloc: Global,
@@ -120,103 +127,143 @@ fn answer_words<R: Threads + Wait + Sync, I: Inputs, O: Write>(
         (O.contents out.new)) }
     ensures unchanged { OnErr result (I.paths inputs.new ≡ I.paths inputs.old) }
 {
-    let Some(format) = asked_format(matches)? else {
-        return answer_rows(rt, alloc, matches, true, inputs, out);
-    };
-    let mut rows = Vec::new(alloc);
-    match answer_rows(rt, alloc, matches, false, inputs, &mut rows) {
-        Ok(outcome) => {
-            let text = format.of(alloc, rows)?;
-            write_out(out, &text)?;
-            Ok(outcome)
-        }
-        Err(failure) => Err(failure.in_memory()),
-    }
-}
-
-/// Answers them in rows. A folder is made only where `may_make` is set: no command that makes one takes a form, and rows
-/// that are to have one can still be refused.
-fn answer_rows<R: Threads + Wait + Sync, I: Inputs, O: Write>(
-    rt: &R,
-    alloc: Global,
-    matches: &ArgMatches<'_>,
-    may_make: bool,
-    inputs: &mut I,
-    out: &mut O,
-) -> Result<Outcome, Failure>
-    ensures ok { IfOk result (DoesRows (subcommand_rows_of matches.now) (I.paths inputs.old) (O.contents out.old)
-        (O.contents out.new) (I.paths inputs.new)) }
-    ensures err { IfErr result (DoesNoRows (subcommand_rows_of matches.now) (I.paths inputs.old) (O.contents out.old)
-        (O.contents out.new)) }
-    ensures unchanged { OnErr result (I.paths inputs.new ≡ I.paths inputs.old) }
-    ensures unmade { may_make ≡ false → I.paths inputs.new ≡ I.paths inputs.old }
-{
+    let form = asked_format(matches)?;
     let Some(path) = names_path(matches)? else {
-        let command = read_command(matches, &[])?;
-        return answer_command(rt, alloc, command, None, may_make, inputs, out);
+        let request = read_request(matches, &[])?;
+        return answer_request(work_with(rt, alloc, None), form, request, inputs, out);
     };
-    answer_with(rt, alloc, matches, path, may_make, inputs, out)
-}
-
-/// Answers it with the names of addresses in the text at this path.
-fn answer_with<R: Threads + Wait + Sync, I: Inputs, O: Write>(
-    rt: &R,
-    alloc: Global,
-    matches: &ArgMatches<'_>,
-    path: &str,
-    may_make: bool,
-    inputs: &mut I,
-    out: &mut O,
-) -> Result<Outcome, Failure>
-    ensures ok { IfOk result (DoesAt (subcommand_rows_of matches.now) (I.paths inputs.old) (O.contents out.old)
-        (O.contents out.new) (Some path.now) (I.paths inputs.new)) }
-    ensures err { IfErr result (DoesNotAt (subcommand_rows_of matches.now) (I.paths inputs.old) (O.contents out.old)
-        (O.contents out.new) (Some path.now)) }
-    ensures unchanged { OnErr result (I.paths inputs.new ≡ I.paths inputs.old) }
-    ensures unmade { may_make ≡ false → I.paths inputs.new ≡ I.paths inputs.old }
-{
     let text = inputs.trace(path)?;
     let names = read_names(alloc, &text)?;
     inputs.forget();
-    let command = read_command(matches, &names)?;
-    let naming = Naming::of(&names, command.request);
-    answer_command(rt, alloc, command, Some(naming), may_make, inputs, out)
+    let request = read_request(matches, &names)?;
+    let work = work_with(rt, alloc, names_of(alloc, &names));
+    answer_request(work, form, request, inputs, out)
 }
 
-/// Answers a command: for the hart of its script, or for each hart if a folder is given instead of a script.
-fn answer_command<R: Threads + Wait + Sync, I: Inputs, O: Write>(
-    rt: &R,
-    alloc: Global,
-    command: Command<'_>,
-    naming: Option<Naming<'_>>,
-    may_make: bool,
+/// Returns what a request is answered with.
+fn work_with<'a, R>(rt: &'a R, alloc: Global, names: Option<AddressNames<'a>>) -> Work<'a, R>
+    ensures names { given_names result.names ≡ given_names names.entry }
+{
+    Work { rt, alloc, names }
+}
+
+/// Returns names as those that are given.
+fn names_of<'a>(alloc: Global, all: &'a [AddressName<'a>]) -> Option<AddressNames<'a>>
+    ensures { given_names result ≡ Some (map named all.now) }
+{
+    Some(AddressNames { alloc, all })
+}
+
+/// Does what a request asks for.
+fn answer_request<R: Threads + Wait + Sync, I: Inputs, O: Write>(
+    work: Work<'_, R>,
+    form: Option<AskedFormat<'_>>,
+    request: Request<'_>,
     inputs: &mut I,
     out: &mut O,
 ) -> Result<Outcome, Failure>
-    ensures ok { IfOk result (Done (I.paths inputs.old) command.entry (O.contents out.old) (O.contents out.new)
-        naming.entry (I.paths inputs.new)) }
-    ensures err { IfErr result (Undone (I.paths inputs.old) command.entry (O.contents out.old) (O.contents out.new)
-        naming.entry) }
+    ensures ok { IfOk result (IsDone (I.paths inputs.old) (given_names work.entry.names) form.entry
+        (O.contents out.old) (O.contents out.new) request.entry (I.paths inputs.new)) }
+    ensures err { IfErr result (IsUndone (I.paths inputs.old) (given_names work.entry.names) form.entry
+        (O.contents out.old) (O.contents out.new) request.entry) }
     ensures unchanged { OnErr result (I.paths inputs.new ≡ I.paths inputs.old) }
-    ensures unmade { may_make ≡ false → I.paths inputs.new ≡ I.paths inputs.old }
 {
-    if let Some((import, folder)) = new_folder(command.request) {
-        if !may_make {
-            return Err(Failure::from(Refusal::Memory));
+    match request {
+        Request::Print(printed) => answer_printed(work, form, printed, inputs, out),
+        Request::LongAudit(audit) => write_long_report(work, audit, inputs, out),
+        Request::Import(asked) => match asked.folder {
+            Some(folder) => import_harts(work.alloc, asked, folder, inputs),
+            None => Ok(Outcome::Imported(write_import(work.alloc, asked, inputs, out)?)),
+        },
+    }
+}
+
+/// Prints the answer to a request: an audit by one script as it is made, any other one as a whole.
+fn answer_printed<R: Threads + Wait + Sync, I: Inputs, O: Write>(
+    work: Work<'_, R>,
+    form: Option<AskedFormat<'_>>,
+    printed: Printed<'_>,
+    inputs: &mut I,
+    out: &mut O,
+) -> Result<Outcome, Failure>
+    ensures ok { IfOk result (IsDone (I.paths inputs.old) (given_names work.entry.names) form.entry
+        (O.contents out.old) (O.contents out.new) (request.Print printed.entry) (I.paths inputs.new)) }
+    ensures err { IfErr result (IsUndone (I.paths inputs.old) (given_names work.entry.names) form.entry
+        (O.contents out.old) (O.contents out.new) (request.Print printed.entry)) }
+    ensures paths { I.paths inputs.new ≡ I.paths inputs.old }
+{
+    match printed {
+        Printed::Ask(path, Question::Audit(audit)) => {
+            answer_audit(work, form, path, audit, inputs, out)
         }
-        return import_harts(rt, alloc, command, import, folder, inputs);
+        _ => print(work, form, printed, inputs, out),
     }
-    match Harts::find(alloc, command, inputs)? {
-        None => answer_one(rt, alloc, command, naming, inputs, out),
-        Some(harts) => answer_folder(rt, alloc, command, naming, harts, inputs, out),
-    }
+}
+
+/// Prints the answer to a request as a whole.
+fn print<R: Threads + Wait + Sync, I: Inputs, O: Write>(
+    work: Work<'_, R>,
+    form: Option<AskedFormat<'_>>,
+    printed: Printed<'_>,
+    inputs: &mut I,
+    out: &mut O,
+) -> Result<Outcome, Failure>
+    ensures ok { IfOk result (λ outcome. (text : List ℕ) × TextSays
+        (paths_for (given_names work.entry.names) (I.paths inputs.old)) (given_names work.entry.names) form.entry
+        printed.entry outcome text × Appends (O.contents out.old) (O.contents out.new) text) }
+    ensures err { IfErr result (IsUndone (I.paths inputs.old) (given_names work.entry.names) form.entry
+        (O.contents out.old) (O.contents out.new) (request.Print printed.entry)) }
+    ensures paths { I.paths inputs.new ≡ I.paths inputs.old }
+{
+    let setting = Setting {
+        alloc: work.alloc,
+        names: work.names,
+        form,
+    };
+    let (outcome, text) = text_of(setting, printed, inputs)?;
+    write_out(out, &text)?;
+    Ok(outcome)
+}
+
+/// Audits a trace by one script, or prints the decisions of each hart of a folder.
+fn answer_audit<R: Threads + Wait + Sync, I: Inputs, O: Write>(
+    work: Work<'_, R>,
+    form: Option<AskedFormat<'_>>,
+    path: &str,
+    audit: Audit<'_>,
+    inputs: &mut I,
+    out: &mut O,
+) -> Result<Outcome, Failure>
+    ensures ok { IfOk result (IsDone (I.paths inputs.old) (given_names work.entry.names) form.entry
+        (O.contents out.old) (O.contents out.new)
+        (request.Print (printed.Ask path.entry (question.Audit audit.entry))) (I.paths inputs.new)) }
+    ensures err { IfErr result (IsUndone (I.paths inputs.old) (given_names work.entry.names) form.entry
+        (O.contents out.old) (O.contents out.new) (request.Print (printed.Ask path.entry (question.Audit audit.entry)))) }
+    ensures paths { I.paths inputs.new ≡ I.paths inputs.old }
+{
+    let asking = Asking {
+        alloc: work.alloc,
+        names: work.names,
+        path,
+        question: Question::Audit(audit),
+    };
+    let Some(_) = Harts::find(asking, inputs)? else {
+        return write_report(work, path, audit, inputs, out);
+    };
+    print(
+        work,
+        form,
+        Printed::Ask(path, Question::Audit(audit)),
+        inputs,
+        out,
+    )
 }
 
 /// Writes a text of help, or the version.
 fn tell<O: Write>(alloc: Global, text: &clap::Error, out: &mut O) -> Result<Outcome, Failure>
     ensures ok { IfOk result (λ outcome. (outcome ≡ Told)
         × ((bytes : List ℕ) × Appends (O.contents out.old) (O.contents out.new) bytes)) }
-    ensures err { IfErr result (TextFails (O.contents out.old) (O.contents out.new)) }
+    ensures err { IfErr result (TellingFails (O.contents out.old) (O.contents out.new)) }
 {
     let text = text.to_string(alloc)?;
     write_out(out, text.as_bytes())?;

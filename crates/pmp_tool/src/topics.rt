@@ -242,8 +242,8 @@ each row, on a line each, or `markdown`, a table with a head. `csv` is the rows'
 own form. The columns have the names of these pages in lower case; with a folder
 the first one is `hart`, and with `--names` the last one is `names`. `policy`
 and `lint` also take `junit`, a suite of tests with a case for each row, and
-`sarif`, which code hosts show beside the script's lines. The exit status is the
-same.
+`sarif`, which code hosts show beside the lines of a script or a policy. The
+exit status is the same.
 
 `pmp help script`, `pmp help trace`, `pmp help names` and `pmp help rows`
 describe formats, and `pmp help COMMAND` a command, its arguments and its

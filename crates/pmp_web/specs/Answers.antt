@@ -1,8 +1,11 @@
 -- What an export returns: its status, and the room of its answer.
-use Rattle.std.specs.Prelude.{◌≡◌, ◌⊎◌, ◌+◌, ℕ, List, [], length, Ok, Option, Some, None, decimal, true, false}
+use Rattle.std.specs.Prelude.{◌≡◌, ◌⊎◌, ◌+◌, ◌++◌, ℕ, List, [], codes, length, Ok, Option, Some, None, decimal, true, false}
+use Rattle.std.specs.List.{flat_map}
 use Rattle.pmp_core.specs.declared.access.Access.{Access}
 use Rattle.pmp_core.specs.declared.decision.Decision.{Decision}
+use Rattle.pmp_text.specs.Columns.{ColumnValue, column_name, columns}
 use Rattle.pmp_text.specs.Contents.{ScriptContents}
+use Rattle.pmp_text.specs.declared.lines.row_kind.RowKind.{RowKind}
 use Rattle.pmp_text.specs.Lines.{lines}
 use Rattle.pmp_text.specs.Scripts.{script_meaning}
 use Rattle.pmp_text.specs.Refusals.{number_of}
@@ -13,10 +16,9 @@ use Rattle.pmp_audit.specs.declared.fault.ReportFault.{ReportFault}
 use Rattle.pmp_audit.specs.declared.fault.ReportFault.TheVariants.{BadAfterOf, NoMomentOf, Script, ScriptOf}
 use Rattle.pmp_audit.specs.declared.fault.Side.TheVariants.{New}
 use Rattle.pmp_audit.specs.declared.write_list.WriteSummary.{WriteSummary}
-use Rattle.pmp_audit.specs.Answers.{Declines}
+use Rattle.pmp_audit.specs.Answers.{Declines, InCsv}
 use Rattle.pmp_audit.specs.AskedFile.{FileRefuses}
-use Rattle.pmp_audit.specs.View.{ViewSays}
-use Rattle.pmp_audit.specs.declared.view.View.{View}
+use Rattle.pmp_audit.specs.View.{ListingSays, ViewSays}
 use Rattle.pmp_audit.specs.WriteList.{WritesSay}
 use Rattle.pmp_audit.specs.PolicyCheck.{VerdictRefuses, VerdictSays}
 use Rattle.pmp_audit.specs.Reasons.{FindingsSay, ReasonsSay}
@@ -29,6 +31,8 @@ use Rattle.pmp_text.specs.declared.lines.verdict.Verdict.{Verdict}
 use Rattle.pmp_text.specs.declared.moments.When.TheVariants.{Number}
 use Rattle.pmp_web.specs.declared.rooms.Answer.{Answer}
 use Rattle.pmp_web.specs.declared.request.Question.{Question}
+use Rattle.pmp_web.specs.declared.request.Shown.{Shown}
+use Rattle.pmp_web.specs.declared.request.Shown.TheVariants as shown
 use Rattle.pmp_map.specs.Request.{IsNamed}
 use Rattle.pmp_web.specs.Request.{NamesNone}
 use Rattle.pmp_web.specs.Rooms.{text_in}
@@ -68,6 +72,15 @@ abbrev pub Answers : (Says : List ℕ → Type 0) → (Refuses : ReportFault →
 Answers Says Refuses status answer =
     ((status ≡ 0) × (answer.line ≡ 0) × Says (text_in answer)) ⊎ IsRefusal Refuses status answer
 
+-- the names of columns, a line each
+abbrev pub name_lines : List ColumnValue → List ℕ
+name_lines = flat_map (λ column. column_name column ++ codes "\n")
+
+-- the kind of rows that the number names has these columns, or it names none
+abbrev pub AnswersColumns : Option RowKind → (status : ℕ) → Answer → Type 0
+AnswersColumns None status answer = IsUnasked BadWord status answer
+AnswersColumns (Some kind) status answer = Answers (λ text. text ≡ name_lines (columns kind)) (λ fault. ⊥) status answer
+
 -- the script has these contents, and the text is the number of its publications
 pub record CountSays (script text : List ℕ) : Type 0 where
   pub contents : ScriptContents
@@ -76,16 +89,16 @@ pub record CountSays (script text : List ℕ) : Type 0 where
 
 -- the text has a row for each event
 abbrev pub RowsSay : (script text : List ℕ) → Type 0
-RowsSay script text = (summary : WriteSummary) × WritesSay [] script summary text
+RowsSay script text = (summary : WriteSummary) × InCsv (WritesSay [] script) summary text
 
 -- the text has a row for each finding
 abbrev pub LintAnswerSays : (script text : List ℕ) → Type 0
-LintAnswerSays script text = (told : ℕ) × FindingsSay script [] told text
+LintAnswerSays script text = (told : ℕ) × InCsv (FindingsSay script []) told text
 
 -- the text has the row that says why it is decided so, and those of its answers at all moments
 abbrev pub WhyAnswerSays : (script : List ℕ) → Access → (after : ℕ) → (text : List ℕ) → Type 0
 WhyAnswerSays script access after text = (decision : Decision)
-    × ReasonsSay script access (Some (Number after)) decision text
+    × InCsv (ReasonsSay script access (Some (Number after))) decision text
 
 -- the numbers name an access, which is answered, or they name none
 abbrev pub AnswersAccess : (script : List ℕ) → (after mode kind start length status : ℕ) → Answer → Type 0
@@ -94,16 +107,21 @@ AnswersAccess script after mode kind start length status answer =
     × Answers (WhyAnswerSays script access after) (FileRefuses script (Some (Number after))) status answer)
     ⊎ ((refusal : Refusal) × NamesNone mode kind start length refusal × IsUnasked refusal status answer)
 
--- the view that the number names is shown, or it names none
-abbrev pub AnswersView : (script : List ℕ) → (after : ℕ) → Option View → (status : ℕ) → Answer → Type 0
+-- the rows of a listing, or the text of a view, after so many publications
+abbrev pub ShownSays : Shown → (script : List ℕ) → (after : ℕ) → (text : List ℕ) → Type 0
+ShownSays (shown.Rows listing) script after text = InCsv (ListingSays listing script (Some (Number after))) tt text
+ShownSays (shown.Text view) script after text = ViewSays view None script (Some (Number after)) tt text
+
+-- what the number names is shown, or it names nothing
+abbrev pub AnswersView : (script : List ℕ) → (after : ℕ) → Option Shown → (status : ℕ) → Answer → Type 0
 AnswersView script after None status answer = IsUnasked BadWord status answer
-AnswersView script after (Some view) status answer =
-    Answers (ViewSays view script (Some (Number after)) tt) (FileRefuses script (Some (Number after))) status answer
+AnswersView script after (Some shown) status answer =
+    Answers (ShownSays shown script after) (FileRefuses script (Some (Number after))) status answer
 
 -- the text has the verdict on the row
 abbrev pub VerdictAnswerSays : (script : List ℕ) → Question → (text : List ℕ) → Type 0
 VerdictAnswerSays script it text =
-    (verdict : Verdict) × VerdictSays it.pace script it.number it.fields verdict text
+    (verdict : Verdict) × InCsv (VerdictSays it.pace script it.number it.fields) verdict text
 
 -- the row that the numbers name has its verdict, or they name none
 abbrev pub AnswersVerdict : (script : List ℕ) → Option Question → (status : ℕ) → Answer → Type 0
@@ -115,8 +133,8 @@ AnswersVerdict script (Some it) status answer =
 abbrev pub DiffAnswerSays : (old : List ℕ) → (old_after : ℕ) → (new : List ℕ) → (new_after : ℕ) → (text : List ℕ)
     → Type 0
 DiffAnswerSays old old_after new new_after text =
-    (rows : ℕ) × DiffSays old (Some (Number old_after)) new (Some (Number new_after))
-    (record { only = None; has_locks = false }) rows text
+    (count : ℕ) × InCsv (DiffSays old (Some (Number old_after)) new (Some (Number new_after))
+    (record { only = None; has_locks = false })) count text
 
 -- ---- logs
 

@@ -5,7 +5,7 @@ use Rattle.pmp_text.specs.Outcomes.{no_memory_for_rows}
 use Rattle.pmp_text.specs.Refusals.{number_of}
 use Rattle.pmp_text.specs.declared.moments.When.TheVariants.{Number}
 use Rattle.pmp_text.specs.declared.refusal.Refusal.{Refusal}
-use Rattle.pmp_text.specs.declared.refusal.Refusal.TheVariants.{BadWord, Output}
+use Rattle.pmp_text.specs.declared.refusal.Refusal.TheVariants.{BadWord}
 use Rattle.pmp_text.specs.declared.trace.RowFault.{RowFault}
 use Rattle.pmp_audit.specs.AskedFile.{FileRefuses}
 use Rattle.pmp_audit.specs.ScriptDiff.{GivesFile}
@@ -38,7 +38,6 @@ abbrev pub refusal_in_plan : AnswerFault → Refusal
 refusal_in_plan (answer.Text fault) = fault.kind
 refusal_in_plan (answer.Script fault) = fault.kind
 refusal_in_plan (answer.Plan fault) = refusal_of fault
-refusal_in_plan answer.Output = Output
 
 -- the number of the refusal, plus 256
 abbrev pub plan_number : AnswerFault → ℕ

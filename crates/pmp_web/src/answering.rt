@@ -1,17 +1,19 @@
 //! How an answer is written to its room, and its status returned.
 
-ghost use Rattle.std.specs.Prelude.{◌≡◌, [], IfErr, IfOk};
+ghost use Rattle.std.specs.Prelude.{◌≡◌, ◌++◌, [], IfErr, IfOk, OnOk, map};
 ghost use Rattle.pmp_audit.specs.Answers.{Declines, IsAppended};
 ghost use Rattle.pmp_audit.specs.WriteList.{WritesRefuse};
+ghost use Rattle.pmp_audit.specs.declared.fault.ReportFault.TheVariants.{Memory};
 ghost use Rattle.pmp_text.specs.Refusals.{number_of};
-ghost use Rattle.pmp_web.specs.Answers.{CountSays, IsUnasked, line_of, told_number};
+ghost use Rattle.pmp_web.specs.Answers.{CountSays, IsUnasked, line_of, name_lines, told_number};
+ghost use Rattle.pmp_text.specs.Columns.{column_value, columns};
 ghost use Rattle.pmp_web.specs.Rooms.{text_in};
 
 use crate::rooms::Answer;
 use itoa::Buffer;
 use pmp_audit::{ReportFault, Side};
 use pmp_import::{ImportFault, Options};
-use pmp_text::{FixedLog, Refusal, Sink, read_script_in};
+use pmp_text::{Column, FixedLog, NoMemory, Refusal, RowKind, Sink, read_script_in};
 
 /// The greatest number of events in a script.
 const EVENTS: usize = 1 << 14;
@@ -122,5 +124,25 @@ pub fn append_count<S: Sink>(script: &[u8], out: &mut S) -> Result<(), ReportFau
     let mut log = Log::new();
     let script = read_script_in(&mut log, script)?;
     out.append(Buffer::new().format(script.batches()).as_bytes())?;
+    Ok(())
+}
+
+/// Appends the names of columns, a line each, or some of them.
+fn append_names<S: Sink>(columns: &[Column], out: &mut S) -> Result<(), NoMemory>
+    ensures { OnOk result (S.text out.new ≡ S.text out.old ++ name_lines (map column_value columns.now)) }
+{
+    for column in columns {
+        out.append(column.name().as_bytes())?;
+        out.append(b"\n")?;
+    }
+    Ok(())
+}
+
+/// Appends the names of the columns of such rows, a line each, or some of them.
+pub fn append_columns<S: Sink>(kind: RowKind, out: &mut S) -> Result<(), ReportFault>
+    ensures ok { OnOk result (S.text out.new ≡ S.text out.old ++ name_lines (columns kind)) }
+    ensures err { IfErr result (λ fault. fault ≡ Memory) }
+{
+    append_names(kind.columns(), out)?;
     Ok(())
 }

@@ -13,11 +13,11 @@ ghost use Rattle.std.specs.Prelude.{Some};
 ghost use Rattle.pmp_audit.specs.WriteList.{WritesRefuse};
 ghost use Rattle.pmp_text.specs.declared.moments.When.TheVariants.{Number};
 ghost use Rattle.pmp_audit.specs.ScriptDiff.{DiffRefuses};
-ghost use Rattle.pmp_web.specs.Answers.{Answers, AnswersAccess, AnswersImport, AnswersVerdict, AnswersView};
-ghost use Rattle.pmp_web.specs.Answers.{CountSays, DiffAnswerSays, LintAnswerSays, RowsSay};
+ghost use Rattle.pmp_web.specs.Answers.{Answers, AnswersAccess, AnswersColumns, AnswersImport, AnswersVerdict};
+ghost use Rattle.pmp_web.specs.Answers.{AnswersView, CountSays, DiffAnswerSays, LintAnswerSays, RowsSay};
 ghost use Rattle.pmp_web.specs.Demand.{question_of};
 ghost use Rattle.pmp_web.specs.Plans.{AnswersMeets, AnswersPlan, security_of};
-ghost use Rattle.pmp_web.specs.Request.{format_of, view_of};
+ghost use Rattle.pmp_web.specs.Request.{format_of, row_kind_of, shown_by};
 ghost use Rattle.pmp_web.specs.Rooms.{script_in, text_in};
 
 mod answering;
@@ -25,15 +25,31 @@ mod plans;
 mod request;
 mod rooms;
 
-use answering::{ANSWERED, GUESSED, Log, append_count, refuse, refuse_log, refuse_question, tell};
+use answering::{
+    ANSWERED, GUESSED, Log, append_columns, append_count, refuse, refuse_log, refuse_question, tell,
+};
 use plans::{file_after, security_of, tell_script, tell_verdicts};
 use pmp_audit::{
-    AskedChanges, append_diff, append_findings, append_reasons, append_verdict, append_view,
-    append_writes,
+    AskedChanges, AskedView, Moment, add_diff, add_findings, add_listing, add_reasons, add_writes,
+    append_verdict, append_view,
 };
 use pmp_import::append_import;
 use pmp_text::{Refusal, When};
+use request::Shown;
 pub use rooms::{Answer, Demand, Script};
+
+/// Writes the names of the columns that rows of a kind have, a line each: 0 runs, 1 entries, 2 events, 3 verdicts of a
+/// policy, 4 findings, 5 differences, 6 why an access is decided so, 7 how it is decided. A number that names nothing is
+/// refused as 24.
+#[unsafe(no_mangle)]
+pub extern "C" fn tilvenka_page_columns(kind: u32, answer: &mut Answer) -> u32
+    ensures { AnswersColumns (row_kind_of kind) result answer.new }
+{
+    let Some(kind) = request::row_kind_of(kind) else {
+        return refuse_question(answer, Refusal::BadWord);
+    };
+    tell!(answer, append_columns(kind, answer))
+}
 
 /// Writes how many publications the script has, in decimal.
 #[unsafe(no_mangle)]
@@ -53,19 +69,25 @@ pub extern "C" fn tilvenka_page_view(
     view: u32,
     answer: &mut Answer,
 ) -> u32
-    ensures { AnswersView (script_in script.now) after (view_of view) result answer.new }
+    ensures { AnswersView (script_in script.now) after (shown_by view) result answer.new }
 {
-    match request::view_of(view) {
-        Some(view) => tell!(
-            answer,
-            append_view(
-                &mut Log::new(),
-                view,
-                script.text(),
-                Some(When::Number(after)),
-                answer
+    let log = &mut Log::new();
+    let after = Some(When::Number(after));
+    match request::shown_by(view) {
+        Some(Shown::Rows(listing)) => {
+            tell!(
+                answer,
+                add_listing(log, listing, script.text(), after, answer)
             )
-        ),
+        }
+        Some(Shown::Text(view)) => {
+            let asked = AskedView {
+                view,
+                after,
+                names: None,
+            };
+            tell!(answer, append_view(log, asked, script.text(), answer))
+        }
         None => refuse_question(answer, Refusal::BadWord),
     }
 }
@@ -77,7 +99,7 @@ pub extern "C" fn tilvenka_page_writes(script: &Script, answer: &mut Answer) -> 
         Answers (RowsSay script) (WritesRefuse script) result answer.new }
 {
     let log = &mut Log::new();
-    tell!(answer, append_writes(log, script.text(), &[], answer))
+    tell!(answer, add_writes(log, script.text(), &[], answer))
 }
 
 /// Writes a row for each finding of the script, like `pmp lint`.
@@ -87,7 +109,7 @@ pub extern "C" fn tilvenka_page_lint(script: &Script, answer: &mut Answer) -> u3
         Answers (LintAnswerSays script) (WritesRefuse script) result answer.new }
 {
     let log = &mut Log::new();
-    tell!(answer, append_findings(log, script.text(), &[], answer))
+    tell!(answer, add_findings(log, script.text(), &[], answer))
 }
 
 /// Decides one access after the given number of publications, and writes why, and its answers at all moments, like
@@ -108,7 +130,7 @@ pub extern "C" fn tilvenka_page_why(
     match request::access_of(mode, kind, start, length) {
         Ok(access) => tell!(
             answer,
-            append_reasons(
+            add_reasons(
                 &mut Log::new(),
                 script.text(),
                 &access,
@@ -163,12 +185,16 @@ pub extern "C" fn tilvenka_page_diff(
 {
     tell!(
         answer,
-        append_diff(
+        add_diff(
             &mut Log::new(),
-            old.text(),
-            Some(When::Number(old_after)),
-            new.text(),
-            Some(When::Number(new_after)),
+            Moment {
+                script: old.text(),
+                after: Some(When::Number(old_after)),
+            },
+            Moment {
+                script: new.text(),
+                after: Some(When::Number(new_after)),
+            },
             AskedChanges {
                 only: None,
                 has_locks: false,

@@ -20,7 +20,7 @@ use pmp_core::RegFile;
 use pmp_plan::{
     AnswerFault, PlanFault, PlanRow, SEARCH_ROOM, Security, State, append_plan, append_verdicts,
 };
-use pmp_text::{ReadScript, Refusal, read_script_in};
+use pmp_text::{ReadScript, read_script_in};
 
 /// The greatest number of a plan's rows.
 const ROWS: usize = 1 << 10;
@@ -74,7 +74,6 @@ fn plan_number(fault: AnswerFault) -> u32
         AnswerFault::Text(fault) => fault.kind,
         AnswerFault::Script(fault) => fault.kind,
         AnswerFault::Plan(fault) => fault.refusal(),
-        AnswerFault::Output => Refusal::Output,
     };
     OF_PLAN + u32::from(refusal.number())
 }

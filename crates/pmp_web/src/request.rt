@@ -3,14 +3,14 @@
 ghost use Rattle.std.specs.Prelude.{◌≡◌, IfErr, IfOk};
 ghost use Rattle.pmp_web.specs.Demand.{demand_of, kinds_of, modes_of, pace_of, question_of};
 ghost use Rattle.pmp_map.specs.Request.{IsNamed};
-ghost use Rattle.pmp_web.specs.Request.{NamesNone, format_of, view_of};
+ghost use Rattle.pmp_web.specs.Request.{NamesNone, format_of, row_kind_of, shown_by};
 
 use crate::rooms::Demand;
-use pmp_audit::{Pace, View};
+use pmp_audit::{Listing, Pace, View};
 use pmp_core::{Access, Kind};
 use pmp_import::Format;
 use pmp_map::{kind_of, mode_of};
-use pmp_text::{Coming, Kinds, Modes, PolicyFields, Refusal};
+use pmp_text::{Coming, Kinds, Modes, PolicyFields, Refusal, RowKind};
 
 /// Returns the access that these numbers name.
 pub fn access_of(mode: u32, kind: u32, start: u64, length: u64) -> Result<Access, Refusal>
@@ -23,15 +23,39 @@ pub fn access_of(mode: u32, kind: u32, start: u64, length: u64) -> Result<Access
     Ok(Access::new(mode, kind, start, length)?)
 }
 
-/// Returns the view that a number names.
-pub fn view_of(number: u32) -> Option<View>
-    ensures { result ≡ view_of number }
+/// What is shown of a register file: rows, or a text.
+#[derive(Clone, Copy)]
+pub enum Shown {
+    Rows(Listing),
+    Text(View),
+}
+
+/// Returns what a number names of a register file.
+pub fn shown_by(number: u32) -> Option<Shown>
+    ensures { result ≡ shown_by number }
 {
     match number {
-        0 => Some(View::Runs),
-        1 => Some(View::Picture),
-        2 => Some(View::Entries),
-        3 => Some(View::Registers),
+        0 => Some(Shown::Rows(Listing::Runs)),
+        1 => Some(Shown::Text(View::Picture)),
+        2 => Some(Shown::Rows(Listing::Entries)),
+        3 => Some(Shown::Text(View::Registers)),
+        _ => None,
+    }
+}
+
+/// Returns the kind of rows that a number names.
+pub fn row_kind_of(number: u32) -> Option<RowKind>
+    ensures { result ≡ row_kind_of number }
+{
+    match number {
+        0 => Some(RowKind::Run),
+        1 => Some(RowKind::Entry),
+        2 => Some(RowKind::Effect),
+        3 => Some(RowKind::Verdict),
+        4 => Some(RowKind::Finding),
+        5 => Some(RowKind::Rights),
+        6 => Some(RowKind::Reason),
+        7 => Some(RowKind::Answer),
         _ => None,
     }
 }

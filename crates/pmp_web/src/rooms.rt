@@ -3,7 +3,7 @@
 ghost use Rattle.std.specs.Prelude.{◌≡◌, ◌++◌, ◌≤◌, [], OnErr, OnOk, length, take};
 ghost use Rattle.pmp_web.specs.Rooms.{script_in, text_in};
 
-use pmp_text::{MAX_SCRIPT, NoMemory, Sink};
+use pmp_text::{Cell, MAX_SCRIPT, NoMemory, RowKind, RowSink, Sink, append_row};
 
 /// The greatest length of an answer in bytes.
 pub const MAX_ANSWER: usize = 1 << 21;
@@ -77,7 +77,7 @@ impl Sink for Answer {
     ghost text = { text_in };
 
     fn append(&mut self, bytes: &[u8]) -> Result<(), NoMemory> {
-        let start = self.position();
+        let start = Sink::position(self);
         if bytes.len() > MAX_ANSWER - start {
             return Err(NoMemory);
         }
@@ -94,4 +94,32 @@ impl Sink for Answer {
     fn go_back(&mut self, position: usize) {
         self.length = self.length.min(position as u64);
     }
+}
+
+impl RowSink for Answer {
+    ghost use Rattle.std.proofs.Common.{sym, ◌∙◌, append-nil};
+    ghost use Rattle.pmp_text.specs.Cells.{csv_text};
+    ghost use Rattle.pmp_text.specs.CsvTexts.{both_texts};
+
+    ghost Adds = { λ rows before after. text_in after ≡ text_in before ++ csv_text rows };
+
+    ghost place = { λ answer. length (text_in answer) };
+
+    #[tactic(auto, using(pmp_text::specs::CsvTexts::one_text))]
+    fn add(&mut self, _: RowKind, cells: &[Cell<&[u8]>]) -> Result<(), NoMemory> {
+        append_row(self, cells)
+    }
+
+    fn position(&self) -> usize {
+        Sink::position(self)
+    }
+
+    fn go_back(&mut self, position: usize) {
+        Sink::go_back(self, position);
+    }
+
+    ghost none = { λ answer. sym (append-nil (text_in answer)) };
+
+    ghost both = { λ one other first second third start end. both_texts one other (text_in first) (text_in second)
+        (text_in third) start end };
 }

@@ -1,13 +1,13 @@
 //! The rows that say where two register files differ in what they let the modes do with bytes, or how they lock them.
 
-ghost use Rattle.std.specs.Prelude.{◌≡◌, ◌++◌, IfOk, OnOk, OnErr};
-ghost use Rattle.pmp_text.specs.Changes.{asked_row, byte_lock_text, change_of, change_text, goes_beyond, has_beyond};
+ghost use Rattle.std.specs.Prelude.{◌≡◌, [], IfOk, OnOk, OnErr};
+ghost use Rattle.pmp_text.specs.Changes.{asked_rows, byte_lock_text, change_of, change_text, goes_beyond, has_beyond};
 ghost use Rattle.pmp_text.specs.Changes.{has_row, is_asked};
 
-use crate::lines::hexadecimal::{ADDRESS_DIGITS, Hex};
-use crate::lines::marks::ModeMarks;
-use crate::lines::{NoMemory, append_line};
-use crate::sink::Sink;
+use crate::lines::NoMemory;
+use crate::lines::cell::Cell;
+use crate::lines::row_kind::RowKind;
+use crate::lines::row_sink::RowSink;
 use pmp_core::{Kind, Perms};
 use pmp_map::{ByteLock, Compared, ComparedRun, ModeRights};
 
@@ -90,28 +90,33 @@ fn byte_lock_word(lock: ByteLock) -> &'static str
     }
 }
 
-/// Appends the row of a run if the files differ, and returns whether it has one: the first and the last byte in
-/// fourteen hexadecimal digits, then the rest and LF. For rights with a wanted difference the row is
-/// `FIRST,LAST,MOLD,SUOLD,MNEW,SUNEW,CHANGE`: what the old file lets M-mode do there, and S-mode and U-mode, the same
-/// for the new file, and how they differ; for locks it is `FIRST,LAST,LOCKOLD,LOCKNEW`.
-#[tactic(auto, unfolding(crate::specs::Changes::asked_row, crate::specs::Changes::has_row, crate::specs::Changes::locks_row, crate::specs::Changes::rights_row, crate::specs::Steps::Marks::perms_text,))]
-pub fn write_change<S: Sink>(
-    out: &mut S,
+/// Adds the row of a run if the files differ, and returns whether it has one: the first and the last byte, and then for
+/// rights with a wanted difference what the old file lets M-mode do there, and S-mode and U-mode, the same for the new
+/// file, and how they differ; for locks how the old file locks, and the new one.
+#[tactic(auto, unfolding(crate::specs::Changes::asked_rows, crate::specs::Changes::has_row))]
+pub fn add_change<R: RowSink>(
+    out: &mut R,
     run: &ComparedRun,
     only: Option<Only>,
 ) -> Result<bool, NoMemory>
-    ensures ok { OnOk result (S.text out.new ≡ S.text out.old ++ asked_row only run.now) }
+    ensures ok { OnOk result (R.Adds (asked_rows only run.now) out.old out.new) }
     ensures has { IfOk result (λ has. has ≡ has_row only run.now) }
-    ensures err { OnErr result (S.text out.new ≡ S.text out.old) }
+    ensures err { OnErr result (R.Adds [] out.old out.new) }
 {
-    let first = Hex::<ADDRESS_DIGITS>::new(run.first);
-    let last = Hex::<ADDRESS_DIGITS>::new(run.last);
+    let (first, last) = (Cell::Address(run.first), Cell::Address(run.last));
     match run.both {
         Compared::Rights(old, new) => match change_of(&old, &new) {
             Some(change) if is_asked(only, change) => {
-                let (old, new) = (ModeMarks(old), ModeMarks(new));
-                let change = change_word(change);
-                append_line(out, format_args!("{first},{last},{old},{new},{change}\n"))?;
+                let cells = [
+                    first,
+                    last,
+                    Cell::Rights(old.machine),
+                    Cell::Rights(old.others),
+                    Cell::Rights(new.machine),
+                    Cell::Rights(new.others),
+                    Cell::Word(change_word(change)),
+                ];
+                out.add(RowKind::Rights, &cells)?;
                 Ok(true)
             }
             _ => Ok(false),
@@ -119,7 +124,10 @@ pub fn write_change<S: Sink>(
         Compared::Locks(old, new) if old == new => Ok(false),
         Compared::Locks(old, new) => {
             let (old, new) = (byte_lock_word(old), byte_lock_word(new));
-            append_line(out, format_args!("{first},{last},{old},{new}\n"))?;
+            out.add(
+                RowKind::Locks,
+                &[first, last, Cell::Word(old), Cell::Word(new)],
+            )?;
             Ok(true)
         }
     }

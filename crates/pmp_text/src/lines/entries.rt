@@ -1,40 +1,32 @@
-//! The entries of a register file as text.
+//! The entries of a register file as rows.
 
-ghost use Rattle.std.specs.Prelude.{◌≡◌, ◌<◌, ◌≤◌, ◌++◌, List, ℕ, length, OnOk, OnErr, Some};
-ghost use Rattle.std.specs.Io.{StartsWith};
+ghost use Rattle.std.specs.Prelude.{◌≡◌, ◌<◌, ◌≤◌, ◌∷◌, [], List, length, OnOk, OnErr};
 ghost use Rattle.pmp_core.specs.Span.{IsSpan, span_of};
-ghost use Rattle.pmp_text.specs.EntryRows.{IsEntryText, address_text, entry_row, lock_text, matching_text, span_text};
+ghost use Rattle.pmp_text.specs.Cells.{RowValue, cell_value};
+ghost use Rattle.pmp_text.specs.EntryRows.{AreEntryRows, address_text, entry_row, first_value, last_value};
+ghost use Rattle.pmp_text.specs.EntryRows.{lock_text, matching_text};
 
-use crate::lines::hexadecimal::{ADDRESS_DIGITS, Hex};
-use crate::lines::marks::ModeMarks;
+use crate::lines::NoMemory;
+use crate::lines::cell::Cell;
+use crate::lines::row_kind::RowKind;
+use crate::lines::row_sink::RowSink;
 use crate::lines::since::Since;
-use crate::lines::{NoMemory, append_line};
-use crate::sink::Sink;
 use pmp_core::{AddressMatching, Lock, RegFile, Registers, Span};
 use pmp_map::ModeRights;
-use std::alloc::AllocError;
-use std::fmt;
 
-/// The first and the last byte that an entry matches, or two dashes.
-#[derive(Clone, Copy)]
-struct Ends(Option<Span>);
-
-impl fmt::Display for Ends {
-    ghost output = { λ ends. Some (span_text ends.0) };
-
-    fn fmt<W: fmt::Write>(&self, f: &mut fmt::Formatter<W>) -> fmt::Result {
-        match self.0 {
-            Some(span) => {
-                let first = Hex::<ADDRESS_DIGITS>::new(span.first);
-                let last = Hex::<ADDRESS_DIGITS>::new(span.last);
-                write!(f, "{first},{last}")
-            }
-            None => write!(f, "-,-"),
-        }
+/// Returns the first and the last byte that an entry matches, or two dashes.
+pub fn end_cells<'a>(span: Option<Span>) -> (Cell<&'a [u8]>, Cell<&'a [u8]>)
+    ensures first { cell_value (λ text. text.now) result.0 ≡ first_value span }
+    ensures last { cell_value (λ text. text.now) result.1 ≡ last_value span }
+{
+    match span {
+        Some(span) => (Cell::Address(span.first), Cell::Address(span.last)),
+        None => (Cell::Word("-"), Cell::Word("-")),
     }
 }
 
-fn lock_word(lock: Lock) -> &'static str
+/// Returns the word for how an entry is locked.
+pub fn lock_word(lock: Lock) -> &'static str
     ensures { result.now ≡ lock_text lock }
 {
     match lock {
@@ -50,7 +42,8 @@ fn address_word(is_frozen: bool) -> &'static str
     if is_frozen { "frozen" } else { "-" }
 }
 
-fn matching_word(matching: AddressMatching) -> &'static str
+/// Returns the word for how an address register is read.
+pub fn matching_word(matching: AddressMatching) -> &'static str
     ensures { result.now ≡ matching_text matching }
 {
     match matching {
@@ -61,62 +54,65 @@ fn matching_word(matching: AddressMatching) -> &'static str
     }
 }
 
-#[tactic(auto, unfolding(crate::specs::EntryRows::entry_row), using(crate::proofs::RunLines::text_of_perms))]
-fn write_entry<S: Sink>(
-    out: &mut S,
+#[tactic(auto, using(crate::proofs::RunLines::text_of_perms))]
+fn add_entry<R: RowSink>(
+    out: &mut R,
     registers: &Registers<'_>,
     entry: u8,
     since: Since,
-) -> Result<(), AllocError>
+) -> Result<(), NoMemory>
     requires { entry < length registers.now.entries }
     ensures span { IsSpan registers.now entry (span_of registers.now entry) }
-    ensures ok { OnOk result (S.text out.new
-        ≡ S.text out.old ++ entry_row registers.now entry (span_of registers.now entry) since) }
-    ensures err { OnErr result (S.text out.new ≡ S.text out.old) }
+    ensures ok { OnOk result
+        (R.Adds (entry_row registers.now entry (span_of registers.now entry) since ∷ []) out.old out.new) }
+    ensures err { OnErr result (R.Adds [] out.old out.new) }
 {
     let index = usize::from(entry);
-    let matching = matching_word(registers.matching(index));
-    let ends = Ends(registers.span(index));
-    let rights = ModeMarks(ModeRights::of_owner(registers, Some(entry)));
-    let lock = lock_word(registers.lock(index));
-    let address = address_word(registers.is_address_frozen(index));
-    let locks = format_args!("{lock},{address}");
-    append_line(
-        out,
-        format_args!("{entry},{matching},{ends},{rights},{locks},{since}\n"),
-    )
+    let (first, last) = end_cells(registers.span(index));
+    let rights = ModeRights::of_owner(registers, Some(entry));
+    let cells = [
+        Cell::Number(u64::from(entry)),
+        Cell::Word(matching_word(registers.matching(index))),
+        first,
+        last,
+        Cell::Rights(rights.machine),
+        Cell::Rights(rights.others),
+        Cell::Word(lock_word(registers.lock(index))),
+        Cell::Word(address_word(registers.is_address_frozen(index))),
+        Cell::number(since.frozen),
+        Cell::number(since.held),
+    ];
+    out.add(RowKind::Entry, &cells)
 }
 
-fn write_all<S: Sink>(out: &mut S, file: &RegFile, since: &[Since]) -> Result<(), AllocError>
+/// Adds a row for each entry, or for some.
+fn add_all<R: RowSink>(out: &mut R, file: &RegFile, since: &[Since]) -> Result<(), NoMemory>
     requires { length file.now.entries ≤ length since.now }
-    ensures ok { OnOk result
-        ((text : List ℕ) × IsEntryText file.now since.now text × (S.text out.new ≡ S.text out.old ++ text)) }
-    ensures err { OnErr result (StartsWith (S.text out.new) (S.text out.old)) }
+    ensures ok { OnOk result ((rows : List RowValue) × AreEntryRows file.now since.now rows × R.Adds rows out.old out.new) }
+    ensures err { OnErr result ((rows : List RowValue) × R.Adds rows out.old out.new) }
 {
     let registers = file.registers();
     for entry in 0..file.entries() {
-        write_entry(out, &registers, entry, since[usize::from(entry)])?;
+        add_entry(out, &registers, entry, since[usize::from(entry)])?;
     }
     Ok(())
 }
 
-/// Appends a row for each entry, `ENTRY,MATCHING,FIRST,LAST,MRIGHTS,SURIGHTS,LOCK,ADDRESS,SINCE,HOLDS` and LF.
+/// Adds a row for each entry: its number, how its address register is read, the ends of the bytes that it matches, or
+/// dashes, what its rule gives M-mode, and S-mode and U-mode, its locks, and the numbers in `since`, if any.
 ///
-/// MATCHING says how the address register is read. FIRST and LAST are the ends of the bytes that the entry matches, in
-/// fourteen hexadecimal digits, or dashes. MRIGHTS and SURIGHTS are what its rule gives M-mode, and S-mode and U-mode.
 /// LOCK is `frozen` if writes leave the entry as it is, and `bypassed` if they would without RLB; ADDRESS is `frozen`
-/// if they leave its address register as it is. SINCE and HOLDS are the numbers in `since`, if any.
+/// if they leave its address register as it is.
 #[inline(never)]
-pub fn write_entries<S: Sink>(out: &mut S, file: &RegFile, since: &[Since]) -> Result<(), NoMemory>
+pub fn add_entries<R: RowSink>(out: &mut R, file: &RegFile, since: &[Since]) -> Result<(), NoMemory>
     requires { length file.now.entries ≤ length since.now }
-    ensures ok { OnOk result
-        ((text : List ℕ) × IsEntryText file.now since.now text × (S.text out.new ≡ S.text out.old ++ text)) }
-    ensures err { OnErr result (S.text out.new ≡ S.text out.old) }
+    ensures ok { OnOk result ((rows : List RowValue) × AreEntryRows file.now since.now rows × R.Adds rows out.old out.new) }
+    ensures err { OnErr result (R.Adds [] out.old out.new) }
 {
     let before = out.position();
-    let written = write_all(out, file, since);
-    if written.is_err() {
+    let added = add_all(out, file, since);
+    if added.is_err() {
         out.go_back(before);
     }
-    written
+    added
 }

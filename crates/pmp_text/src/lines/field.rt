@@ -38,13 +38,11 @@ fn needs_quotes(field: &[u8]) -> bool
     field.iter().any(|byte| is_apart(*byte))
 }
 
-/// Appends a comma and a field, in quotes if it needs them, or a prefix of both.
+/// Appends a field, in quotes if it needs them, or a prefix of it.
 pub fn append_field<S: Sink>(out: &mut S, field: &[u8]) -> Result<(), AllocError>
-    ensures ok { OnOk result
-        (S.text out.new ≡ S.text out.old ++ (codes "," ++ field_text default_writer field.now)) }
+    ensures ok { OnOk result (S.text out.new ≡ S.text out.old ++ field_text default_writer field.now) }
     ensures err { OnErr result (StartsWith (S.text out.new) (S.text out.old)) }
 {
-    out.append(b",")?;
     if !needs_quotes(field) {
         return out.append(field);
     }

@@ -1,8 +1,7 @@
 //! Numbers in hexadecimal digits.
 
 ghost use Rattle.std.specs.Prelude.{◌≡◌, ◌<◌, ◌≤◌, Some};
-ghost use Rattle.pmp_text.specs.Hexadecimal.{hex_digit, hex_text};
-ghost use Rattle.pmp_text.specs.Effects.{value_text};
+ghost use Rattle.pmp_text.specs.Hexadecimal.{hex_digit, hex_text, value_text};
 
 use std::fmt;
 

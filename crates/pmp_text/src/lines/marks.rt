@@ -1,7 +1,7 @@
 //! Rights as three characters.
 
 ghost use Rattle.std.specs.Prelude.{◌≡◌, ◌++◌, Some, codes, if◌then◌else◌};
-ghost use Rattle.pmp_text.specs.Steps.Marks.{perms_text};
+ghost use Rattle.pmp_text.specs.RightsTexts.{perms_text};
 
 use pmp_core::{Kind, Perms};
 use pmp_map::ModeRights;
@@ -21,7 +21,7 @@ pub struct Marks(pub Perms);
 impl fmt::Display for Marks {
     ghost output = { λ marks. Some (perms_text marks.0) };
 
-    #[tactic(auto, unfolding(crate::specs::Steps::Marks::perms_text))]
+    #[tactic(auto, unfolding(crate::specs::RightsTexts::perms_text))]
     fn fmt<W: fmt::Write>(&self, f: &mut fmt::Formatter<W>) -> fmt::Result {
         let read = mark(self.0.allows(Kind::Load), "r");
         let write = mark(self.0.allows(Kind::Store), "w");

@@ -2,9 +2,10 @@
 
 ghost use Rattle.std.specs.Prelude.{◌≡◌, ◌+◌, ◌≤◌, ◌++◌, OnOk, OnErr, Some, codes, length};
 ghost use Rattle.arrayvec.specs.ArrayVec.{array_vec_len};
-ghost use Rattle.pmp_text.specs.Reports.{answer_text, cause_text, entry_of, optional_text, report_row};
+ghost use Rattle.pmp_text.specs.Reports.{answer_text, cause_text, optional_text, report_row};
 
 use crate::lines::NoMemory;
+use crate::lines::answer::deciding_entry;
 use crate::sink::Sink;
 use arrayvec::ArrayVec;
 use itoa::Buffer;
@@ -80,14 +81,5 @@ fn cause_field(cause: Cause) -> &'static [u8]
         Cause::Rule(_) => b",rule,",
         Cause::Split(_) => b",split,",
         Cause::NoMatch => b",none,",
-    }
-}
-
-fn deciding_entry(cause: Cause) -> Option<u8>
-    ensures { result ≡ entry_of cause }
-{
-    match cause {
-        Cause::Rule(entry) | Cause::Split(entry) => Some(entry),
-        Cause::NoMatch => None,
     }
 }

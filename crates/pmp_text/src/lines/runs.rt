@@ -1,69 +1,70 @@
-//! The runs of a register file as text.
+//! The runs of a register file as rows.
 
-ghost use Rattle.std.specs.Prelude.{◌≡◌, ◌++◌, List, ℕ, flat_map, length, OnOk, OnErr, Some};
-ghost use Rattle.std.proofs.Props.{props};
+ghost use Rattle.std.specs.Prelude.{◌≡◌, ◌++◌, [], List, length, map, OnOk, OnErr};
 ghost use Rattle.pmp_map.specs.Runs.{HasOwnersBelow};
-ghost use Rattle.pmp_text.specs.RunLines.{IsMapText, owner_text, run_line};
+ghost use Rattle.pmp_text.specs.Cells.{RowValue, cell_value, csv_text};
+ghost use Rattle.pmp_text.specs.RunRows.{AreRunRows, owner_value, run_row};
 
-use crate::lines::hexadecimal::{ADDRESS_DIGITS, Hex};
-use crate::lines::marks::ModeMarks;
-use crate::lines::{NoMemory, append_text};
-use crate::sink::Sink;
+use crate::lines::NoMemory;
+use crate::lines::cell::Cell;
+use crate::lines::row_kind::RowKind;
+use crate::lines::row_sink::RowSink;
 use pmp_core::{RegFile, Registers};
 use pmp_map::{ModeRights, Run, RunMap};
-use std::fmt;
 
-/// The number of a run's owner, or a dash if it has none.
-#[derive(Clone, Copy)]
-pub struct Owner(pub Option<u8>);
-
-impl fmt::Display for Owner {
-    ghost output = { λ owner. Some (owner_text owner.0) };
-
-    fn fmt<W: fmt::Write>(&self, f: &mut fmt::Formatter<W>) -> fmt::Result {
-        match self.0 {
-            Some(entry) => write!(f, "{entry}"),
-            None => write!(f, "-"),
-        }
-    }
-}
-
-/// The greatest length of the lines of all runs, in bytes.
-const MOST: usize = 8192;
-
-/// The lines of runs, whose owners are entries.
-#[derive(Clone, Copy)]
-struct RunLines<'a> {
-    registers: &'a Registers<'a>,
-    runs: &'a [Run],
-    ghost owned: { HasOwnersBelow (length registers.now.entries) runs.now } by { Prim.hlevel props },
-}
-
-impl<'a> fmt::Display for RunLines<'a> {
-    ghost output = { λ lines. Some (flat_map (run_line lines.registers.now) lines.runs.now) };
-
-    fn fmt<W: fmt::Write>(&self, f: &mut fmt::Formatter<W>) -> fmt::Result {
-        for run in self.runs {
-            let first = Hex::<ADDRESS_DIGITS>::new(run.first);
-            let last = Hex::<ADDRESS_DIGITS>::new(run.last);
-            let owner = Owner(run.owner);
-            let rights = ModeMarks(ModeRights::of_owner(self.registers, run.owner));
-            write!(f, "{first},{last},{owner},{rights}\n")?;
-        }
-        Ok(())
-    }
-}
-
-/// Appends a line for each run of the register file, `FIRST,LAST,OWNER,MRIGHTS,SURIGHTS` and LF: the first and the last
-/// byte in fourteen hexadecimal digits, the lowest-numbered entry that matches them or a dash, and what that gives
-/// M-mode, and S-mode and U-mode. The map is the one built from this file.
-#[inline(never)]
-pub fn write_runs<S: Sink>(out: &mut S, file: &RegFile, map: &RunMap) -> Result<(), NoMemory>
-    requires { map.now ≡ file.now }
-    ensures ok { OnOk result ((text : List ℕ) × IsMapText file.now text × (S.text out.new ≡ S.text out.old ++ text)) }
-    ensures err { OnErr result (S.text out.new ≡ S.text out.old) }
+/// Returns the number of a run's owner, or a dash if it has none.
+pub fn owner_cell<'a>(owner: Option<u8>) -> Cell<&'a [u8]>
+    ensures { cell_value (λ text. text.now) result ≡ owner_value owner }
 {
-    let registers = &file.registers();
-    let runs = map.runs();
-    append_text::<MOST, _, _>(out, RunLines { registers, runs })
+    match owner {
+        Some(entry) => Cell::Number(u64::from(entry)),
+        None => Cell::Word("-"),
+    }
+}
+
+/// Adds a row for each run, or for some.
+#[tactic(auto, using(crate::proofs::RunLines::text_of_perms))]
+fn add_all<R: RowSink>(out: &mut R, registers: &Registers<'_>, runs: &[Run]) -> Result<(), NoMemory>
+    requires { HasOwnersBelow (length registers.now.entries) runs.now }
+    ensures ok { OnOk result (R.Adds (map (run_row registers.now) runs.now) out.old out.new) }
+    ensures err { OnErr result ((rows : List RowValue) × R.Adds rows out.old out.new) }
+{
+    for run in runs {
+        let rights = ModeRights::of_owner(registers, run.owner);
+        let cells = [
+            Cell::Address(run.first),
+            Cell::Address(run.last),
+            owner_cell(run.owner),
+            Cell::Rights(rights.machine),
+            Cell::Rights(rights.others),
+        ];
+        out.add(RowKind::Run, &cells)?;
+    }
+    Ok(())
+}
+
+/// Adds a row for each run of the register file: the first and the last byte, the lowest-numbered entry that matches
+/// them or a dash, and what that gives M-mode, and S-mode and U-mode. The map is the one built from this file.
+#[inline(never)]
+pub fn add_runs<R: RowSink>(out: &mut R, file: &RegFile, map: &RunMap) -> Result<(), NoMemory>
+    requires { map.now ≡ file.now }
+    ensures ok { OnOk result ((rows : List RowValue) × AreRunRows file.now rows × R.Adds rows out.old out.new) }
+    ensures err { OnErr result (R.Adds [] out.old out.new) }
+{
+    let before = out.position();
+    let added = add_all(out, &file.registers(), map.runs());
+    if added.is_err() {
+        out.go_back(before);
+    }
+    added
+}
+
+/// Appends the text of these rows, likewise.
+pub fn write_runs(out: &mut Vec<u8>, file: &RegFile, map: &RunMap) -> Result<(), NoMemory>
+    requires { map.now ≡ file.now }
+    ensures ok { OnOk result ((rows : List RowValue) × AreRunRows file.now rows
+        × (out.new.items ≡ out.old.items ++ csv_text rows)) }
+    ensures err { OnErr result (out.new.items ≡ out.old.items) }
+{
+    add_runs(out, file, map)
 }

@@ -1,19 +1,17 @@
 //! The rows of a policy's answer.
 
-ghost use Rattle.std.specs.Prelude.{◌≡◌, ◌++◌, OnErr, OnOk, decimal, option_copied, option_map};
-ghost use Rattle.std.specs.Io.{StartsWith};
-ghost use Rattle.pmp_text.specs.Labels.{label_fields, label_text};
-ghost use Rattle.pmp_text.specs.Reports.{fields_before};
-ghost use Rattle.pmp_text.specs.Verdicts.{is_breach, verdict_fields, verdict_row};
+ghost use Rattle.std.specs.Prelude.{◌≡◌, ◌∷◌, [], OnErr, OnOk, Some, map, option_copied, option_map};
+ghost use Rattle.pmp_text.specs.Cells.{Number, cell_value, verdict_text};
+ghost use Rattle.pmp_text.specs.Labels.{label_text};
+ghost use Rattle.pmp_text.specs.Verdicts.{is_breach, verdict_cells, verdict_row};
 
-use crate::lines::field::append_field;
-use crate::lines::hexadecimal::{ADDRESS_DIGITS, Hex};
-use crate::lines::runs::Owner;
-use crate::lines::{NoMemory, append_line};
+use crate::lines::NoMemory;
+use crate::lines::cell::Cell;
+use crate::lines::row_kind::RowKind;
+use crate::lines::row_sink::RowSink;
+use crate::lines::runs::owner_cell;
 use crate::policy::Label;
-use crate::sink::Sink;
 use pmp_map::Run;
-use std::alloc::AllocError;
 
 /// A breach: where a row of a policy doesn't hold.
 #[derive(Clone, Copy, Debug, PartialEq, Eq)]
@@ -45,76 +43,80 @@ impl Verdict {
             Verdict::Unmet(is_waived) => !is_waived,
         }
     }
+
+    /// Returns it as rows write it.
+    pub fn word(self) -> &'static str
+        ensures { result.now ≡ verdict_text self }
+    {
+        match self {
+            Verdict::Holds => "holds",
+            Verdict::Broken(_) => "broken",
+            Verdict::Unmet(_) => "unmet",
+        }
+    }
 }
 
-/// Appends `NUMBER,holds,,,,` if nothing breaks the row, `NUMBER,unmet,,,,` if its moments don't come, and otherwise
-/// `NUMBER,broken,DONE,FIRST,LAST,OWNER`, with the first and the last byte in fourteen hexadecimal digits, and a dash
-/// for no owner.
-fn write_fields<S: Sink>(out: &mut S, number: u64, verdict: Verdict) -> Result<(), AllocError>
-    ensures ok { OnOk result
-        (S.text out.new ≡ S.text out.old ++ (decimal number ++ fields_before (verdict_fields verdict))) }
-    ensures err { OnErr result (S.text out.new ≡ S.text out.old) }
+/// Returns the number, the verdict, and if it is broken, after how much was done, for which bytes, and by which entry.
+fn verdict_cells<'a>(number: u64, verdict: Verdict) -> [Cell<&'a [u8]>; 6]
+    ensures { map (cell_value (λ text. text.now)) result ≡ Number number ∷ verdict_cells verdict }
 {
-    let Breach { done, run } = match verdict {
-        Verdict::Holds => return append_line(out, format_args!("{number},holds,,,,")),
-        Verdict::Unmet(_) => return append_line(out, format_args!("{number},unmet,,,,")),
-        Verdict::Broken(breach) => breach,
-    };
-    let first = Hex::<ADDRESS_DIGITS>::new(run.first);
-    let last = Hex::<ADDRESS_DIGITS>::new(run.last);
-    let owner = Owner(run.owner);
-    append_line(
-        out,
-        format_args!("{number},broken,{done},{first},{last},{owner}"),
-    )
+    let number = Cell::Number(number);
+    let word = Cell::Verdict(verdict);
+    match verdict {
+        Verdict::Broken(Breach { done, run }) => [
+            number,
+            word,
+            Cell::Number(done),
+            Cell::Address(run.first),
+            Cell::Address(run.last),
+            owner_cell(run.owner),
+        ],
+        _ => [
+            number,
+            word,
+            Cell::Nothing,
+            Cell::Nothing,
+            Cell::Nothing,
+            Cell::Nothing,
+        ],
+    }
 }
 
-/// Appends the name and the comment of a row that has them, or a prefix of these.
-fn write_label<S: Sink>(out: &mut S, label: Option<&Label>) -> Result<(), AllocError>
-    ensures ok { OnOk result (S.text out.new
-        ≡ S.text out.old ++ fields_before (label_fields (option_map label_text (option_copied label.entry)))) }
-    ensures err { OnErr result (StartsWith (S.text out.new) (S.text out.old)) }
+/// Returns the same, and the name and the comment.
+fn labeled_cells<'a>(number: u64, verdict: Verdict, label: &'a Label) -> [Cell<&'a [u8]>; 8]
+    ensures { map (cell_value (λ text. text.now)) result ≡ (verdict_row number verdict (Some (label_text label.now))).cells }
 {
-    let Some(label) = label else {
-        return Ok(());
-    };
-    append_field(out, &label.name)?;
-    append_field(out, &label.comment)
+    let [number, word, done, first, last, owner] = verdict_cells(number, verdict);
+    let (name, comment) = (label.name.as_slice(), label.comment.as_slice());
+    [
+        number,
+        word,
+        done,
+        first,
+        last,
+        owner,
+        Cell::Text(name),
+        Cell::Text(comment),
+    ]
 }
 
-/// Appends the whole row, or a prefix of it.
-fn write_all<S: Sink>(
-    out: &mut S,
-    number: u64,
-    verdict: Verdict,
-    label: Option<&Label>,
-) -> Result<(), AllocError>
-    ensures ok { OnOk result
-        (S.text out.new ≡ S.text out.old
-        ++ verdict_row number verdict (option_map label_text (option_copied label.entry))) }
-    ensures err { OnErr result (StartsWith (S.text out.new) (S.text out.old)) }
-{
-    write_fields(out, number, verdict)?;
-    write_label(out, label)?;
-    out.append(b"\n")
-}
-
-/// Appends the answer row for the policy row with this number, with its name and comment if it has them, and LF.
-pub fn write_verdict<S: Sink>(
-    out: &mut S,
+/// Adds the answer row for the policy row with this number, with its name and comment if it has them: whether it holds,
+/// and if not, its first breach.
+pub fn add_verdict<R: RowSink>(
+    out: &mut R,
     number: u64,
     verdict: Verdict,
     label: Option<&Label>,
 ) -> Result<(), NoMemory>
-    ensures ok { OnOk result
-        (S.text out.new ≡ S.text out.old
-        ++ verdict_row number verdict (option_map label_text (option_copied label.entry))) }
-    ensures err { OnErr result (S.text out.new ≡ S.text out.old) }
+    ensures ok { OnOk result (R.Adds (verdict_row number verdict (option_map label_text (option_copied label.entry)) ∷ [])
+        out.old out.new) }
+    ensures err { OnErr result (R.Adds [] out.old out.new) }
 {
-    let before = out.position();
-    let written = write_all(out, number, verdict, label);
-    if written.is_err() {
-        out.go_back(before);
+    match label {
+        Some(label) => out.add(
+            RowKind::LabeledVerdict,
+            &labeled_cells(number, verdict, label),
+        ),
+        None => out.add(RowKind::Verdict, &verdict_cells(number, verdict)),
     }
-    written
 }

@@ -1,5 +1,5 @@
 use Rattle.std.proofs.Common.{None}
-use Rattle.std.proofs.Common.{◌≡◌, ◌<◌, ◌∙◌, List, ap, arith, get_or, length, refl, subst, sym}
+use Rattle.std.proofs.Common.{◌≡◌, ◌<◌, ◌∙◌, List, [], ◌∷◌, ap, arith, get_or, length, refl, subst, sym}
 use Rattle.std.proofs.lemmas.List.{get_or-map}
 use Rattle.pmp_text.specs.declared.policy.PolicyRow.{PolicyRow}
 use Rattle.pmp_text.specs.Verdicts.{verdict_row}
@@ -17,7 +17,7 @@ returns-clause-ok g c =
     ∙ ap (λ (l : List PolicyRow). get_or l 0 row) c.judge.ensures.rows ∙ c.new-2.ensures.row in
     let told = c.told-verdict.ensures in
     record {
-      text = verdict_row c.args.number c.told-verdict.result None;
+      rows = verdict_row c.args.number c.told-verdict.result None ∷ [];
       says = record {
         contents = c.in_ok-script.script;
         script_means = c.in_ok-script.ensures;
@@ -26,7 +26,7 @@ returns-clause-ok g c =
         proper = rw (← c.batches.ensures) c.in-Ok.ensures.ok.0;
         judged = subst (λ (r : PolicyRow). IsVerdict c.args.pace c.in_ok-script.script r c.told-verdict.result) same
             (rw told (c.judge.ensures.judged 0 c.index-judged-0.result inside));
-        text_is = refl;
+        answer_is = refl;
       };
-      appended = c.in_ok-write_verdict.ensures.ok;
+      added = c.in_ok-add_verdict.ensures.ok;
     }

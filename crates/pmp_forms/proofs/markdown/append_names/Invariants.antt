@@ -1,12 +1,12 @@
 use Rattle.std.proofs.Common.{◌≡◌, ◌++◌, drop, map}
 use Rattle.std.specs.List.{flat_map}
 use Rattle.std.specs.Prelude.{codes}
-use Rattle.pmp_forms.specs.Columns.{said}
+use Rattle.pmp_text.specs.Columns.{column_name, column_value}
 use Rattle.pmp_forms.specs.Markdown.{cell, line}
 use Rattle.pmp_forms.proofs.markdown.append_names.Given as goal
 
 -- the cells so far, and those of the rest, are all
 abbrev pub invariant-loop-column : goal.invariant-loop-column
 invariant-loop-column l =
-    l.out.items ++ (flat_map cell (map (λ column. column.name) (said (drop l.column-index l.columns))) ++ codes "\n")
-    ≡ l.fn.out.items ++ line (map (λ column. column.name) (said l.columns))
+    l.out.items ++ (flat_map cell (map column_name (map column_value (drop l.column-index l.columns))) ++ codes "\n")
+    ≡ l.fn.out.items ++ line (map column_name (map column_value l.columns))

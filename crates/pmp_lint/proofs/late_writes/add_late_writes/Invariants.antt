@@ -8,6 +8,6 @@ use Rattle.pmp_lint.proofs.late_writes.add_late_writes.Given as goal
 abbrev pub invariant-loop-index : goal.invariant-loop-index
 invariant-loop-index g l = record {
   file : l.file ≡ file_of_script l.script l.index;
-  told : HasTold (late_writes l.script l.index) (telling (g.S.Sink.text l.fn.out) l.fn.told)
-      (telling (g.S.Sink.text l.out) l.told);
+  told : HasTold g.R.RowSink.Adds (late_writes l.script l.index) (telling l.fn.out l.fn.told)
+      (telling l.out l.told);
 }

@@ -6,7 +6,7 @@ use Rattle.pmp_text.proofs.Prefixes.{on_err}
 use Rattle.pmp_lint.specs.Events.{happenings_from}
 use Rattle.pmp_lint.proofs.Happenings.{file_on, happening_here, happenings_on, none_left}
 use Rattle.pmp_lint.proofs.OpenBetween.{all_events, one_event_more}
-use Rattle.pmp_lint.proofs.Telling.{begins}
+use Rattle.pmp_lint.proofs.Telling.{told_some}
 use Rattle.pmp_lint.proofs.open_between.add_of_publication.Goals as goal
 
 abbrev none : Event
@@ -21,7 +21,7 @@ loop-place-preserved g c =
     let inside = c.loop-place-test.true in
     record {
       file = rw c.step.ensures.step (sym (file_on place file events lines none inside) ∙ c.loop-place.invariant.file);
-      told = rw c.step.ensures.step (one_event_more c.args.file.now c.run_events.new.self
+      told = rw c.step.ensures.step (one_event_more g.R.RowSink.Adds g.met.R.RowSink.none g.met.R.RowSink.both c.args.file.now c.run_events.new.self
           (happenings_from 0 c.args.file.now events lines) _ (happening_here place file events lines none) _ _ _
           (rw (happenings_on place file events lines none inside) at c.loop-place.invariant.told)
           (rw (
@@ -40,10 +40,10 @@ returns-clause-ok g c =
     let lines = c.args.lines.now in
     let left = none_left c.loop-place.place c.loop-place.file events lines none c.loop-place-test.false in
     rw c.run_events.ensures.steps
-    at (all_events file c.run_events.new.self (happenings_from 0 file events lines) _ _
+    at (all_events g.R.RowSink.Adds g.met.R.RowSink.none g.met.R.RowSink.both file c.run_events.new.self (happenings_from 0 file events lines) _ _
     (rw left at c.loop-place.invariant.told))
 
 pub returns-in_err-add_opened-clause-err : goal.returns-in_err-add_opened-clause-err
 returns-in_err-add_opened-clause-err g c =
-    on_err _ (begins c.loop-place.invariant.told.findings _ _ _ c.loop-place.invariant.told.told
-    c.in_err-add_opened.ensures.err)
+    on_err _ (told_some g.R.RowSink.Adds g.met.R.RowSink.none g.met.R.RowSink.both
+    c.loop-place.invariant.told.findings _ _ _ c.loop-place.invariant.told.told c.in_err-add_opened.ensures.err)

@@ -1,7 +1,8 @@
 use Rattle.std.proofs.Common.{◌≡◌, length, map}
 use Rattle.pmp_text.specs.Lines.{lines}
 use Rattle.pmp_names.specs.AddressNames.{names_from}
-use Rattle.pmp_names.specs.NameLists.{joined, named}
+use Rattle.pmp_text.specs.MetNames.{named}
+use Rattle.pmp_names.specs.NameLists.{joined}
 use Rattle.pmp_names.proofs.address_names.read_rows.Given as goal
 
 -- the names so far, and those of the rest, are all

@@ -1,6 +1,6 @@
 use Rattle.std.proofs.Common.{◌≡◌, drop, map}
 use Rattle.pmp_names.specs.NamedAddresses.{find_name}
-use Rattle.pmp_names.specs.NameLists.{named}
+use Rattle.pmp_text.specs.MetNames.{named}
 use Rattle.pmp_names.proofs.named_address.find_name.Given as goal
 
 -- none of those so far is it

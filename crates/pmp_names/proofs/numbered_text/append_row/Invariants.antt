@@ -2,7 +2,7 @@ use Rattle.std.proofs.Common.{◌≡◌, ◌++◌, length, map}
 use Rattle.std.specs.List.{flat_map}
 use Rattle.std.specs.Prelude.{codes}
 use Rattle.pmp_names.specs.Parts.{rest_of}
-use Rattle.pmp_names.specs.NameLists.{named}
+use Rattle.pmp_text.specs.MetNames.{named}
 use Rattle.pmp_names.specs.NumberedTexts.{fields_of, numbered_fields, numbered_row}
 use Rattle.pmp_names.proofs.numbered_text.append_row.Given as goal
 

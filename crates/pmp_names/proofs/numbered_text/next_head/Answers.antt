@@ -1,5 +1,5 @@
 use Rattle.std.proofs.Common.{◌≡◌, ◌∙◌, refl, sym, ap, ℕ, List, [], ◌∷◌}
-use Rattle.pmp_names.specs.AddressNames.{Named}
+use Rattle.pmp_text.specs.MetNames.{Named}
 use Rattle.pmp_names.specs.NumberedTexts.{numbered_field, numbered_fields}
 use Rattle.pmp_names.specs.Parts.{rest_of}
 use Rattle.pmp_names.proofs.numbered_text.next_head.Goals as goal

@@ -1,12 +1,13 @@
 //! What stands above the bands of a picture.
 
-ghost use Rattle.std.specs.Prelude.{◌≡◌};
-ghost use Rattle.pmp_text.specs.Picture.{switch_text};
+ghost use Rattle.std.specs.Prelude.{◌≡◌, is_some};
+ghost use Rattle.pmp_text.specs.MetNames.{given_names};
+ghost use Rattle.pmp_text.specs.Picture.{names_head, switch_text, width_text};
 
+use crate::address_name::AddressNames;
 use pmp_core::{Csr, RegFile};
 
-/// What the picture shows, in words for screen readers; the colour for each set of rights of supervisor and user mode;
-/// the background.
+/// What the picture shows, in words for screen readers, and the colour for each set of rights of supervisor and user mode.
 pub const STYLE: &str = "\
 <desc>One band for each run of bytes that have one owner, from byte 0 down to byte 2^56 - 1, not to scale. A band has
 the first and the last byte of its run, its size, its owner, what machine mode may do there, what supervisor and user
@@ -26,10 +27,9 @@ path{fill:#111}
 .surw- rect{fill:#ffe9a3}
 .surwx rect{fill:#ffc4ba}
 </style>
-<rect width='960' height='100%'/>
 ";
 
-/// What the bands and their colours mean, the names of their columns, and where the bands begin.
+/// What the bands and their colours mean, and the names of their columns but that of names.
 pub const LEGEND: &str = "\
 <text x='16' y='86'>One band for each run of bytes that have one owner, from byte 0 down to byte 2^56 - 1; \
 not to scale.</text>
@@ -42,10 +42,33 @@ not to scale.</text>
 <g class='surwx' transform='translate(764,117)'><rect y='-17' width='64' height='24'/><text x='20'>rwx</text></g>
 <g transform='translate(16,152)'>
 <text x='8'>First byte</text><text x='148'>Last byte</text><text x='292'>Size</text><text x='496'>Owner</text>
-<text x='592'>Machine</text><text x='700'>Supervisor, user</text><text x='846'>Lock</text>
+<text x='592'>Machine</text><text x='700'>Supervisor, user</text><text x='846'>Lock</text>";
+
+/// Where the bands begin.
+pub const BANDS: &str = "
 </g>
 <g transform='translate(16,177)'>
 ";
+
+/// Returns the width of a picture, which is wider with names.
+pub fn width_word(names: Option<AddressNames<'_>>) -> &'static str
+    ensures { result.now ≡ width_text (is_some (given_names names.entry)) }
+{
+    match names {
+        Some(_) => "1280",
+        None => "960",
+    }
+}
+
+/// Returns the name of the column of names, if there is one.
+pub fn names_head(names: Option<AddressNames<'_>>) -> &'static str
+    ensures { result.now ≡ names_head (is_some (given_names names.entry)) }
+{
+    match names {
+        Some(_) => "<text x='936'>Names</text>",
+        None => "",
+    }
+}
 
 /// Whether a bit of `mseccfg` is set.
 pub fn switch_word(is_on: bool) -> &'static str

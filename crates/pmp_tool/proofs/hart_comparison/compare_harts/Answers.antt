@@ -1,33 +1,20 @@
-use Rattle.std.proofs.Common.{refl, rules}
-use Rattle.std.proofs.lemmas.Result.{IfErr-weaker, IfOk-weaker, err_from_is_err_and}
-use Rattle.std.proofs.KnownBytes.{Keeps-refl}
-use Rattle.pmp_tool.specs.HartComparisons.{cant_compare, no_first, no_path}
-use Rattle.pmp_tool.proofs.HartComparing.{are_none, is_comparison}
+use Rattle.std.proofs.lemmas.Result.{err_from_is_err_and}
+use Rattle.pmp_tool.specs.HartComparisons.{no_folder, unread_file}
+use Rattle.pmp_tool.proofs.HartComparing.{comparison_unfound}
 use Rattle.pmp_tool.proofs.hart_comparison.compare_harts.Goals as goal
+
+pub returns-in_err-names-clause-err : goal.returns-in_err-names-clause-err
+returns-in_err-names-clause-err g c =
+    let p = err_from_is_err_and c.from_residual.result c.from_residual.ensures.1 in
+    rw (p.1, p.2) (comparison_unfound _ c.args.asked.folder.now _ _ c.in_err-names.ensures.unfound)
+
+pub returns-in_err-script_at-clause-err : goal.returns-in_err-script_at-clause-err
+returns-in_err-script_at-clause-err g c =
+    let exit = c.from_residual-in_err-script_at in
+    let p = err_from_is_err_and exit.result exit.ensures.1 in
+    rw (p.1, p.2) (unread_file _ (rw c.in_default.is at c.in_ok-names.ensures.found)
+    (rw c.in_ok-names.ensures.paths at c.in_err-script_at.ensures.unread))
 
 pub returns-in_default-clause-err : goal.returns-in_default-clause-err
 returns-in_default-clause-err g c =
-    rw c.from.ensures (no_first (are_none c.args.harts.names.items
-    (rw c.deref.ensures.value at c.in_default.ensures.item.3)) (Keeps-refl _))
-
-pub returns-in_err-script-clause-err : goal.returns-in_err-script-clause-err
-returns-in_err-script-clause-err g c =
-    let p = err_from_is_err_and c.from_residual.result c.from_residual.ensures.1 in
-    rw (p.1, p.2) (no_path (Keeps-refl _))
-
-pub returns-clause-ok : goal.returns-clause-ok
-returns-clause-ok g c =
-    IfOk-weaker c.answer_harts.result _ _ (λ outcome answers. record {
-      one = _;
-      others = _;
-      is = is_comparison c.args.command c.args.has_locks c.args.harts _ _ c.in-Some.first.now c.as_str-2.result.now
-          (rw c.deref.ensures.value at c.in-Some.ensures.value) (search rules) refl refl;
-      answers = answers;
-    }) c.answer_harts.ensures.ok
-
-pub returns-clause-err : goal.returns-clause-err
-returns-clause-err g c =
-    IfErr-weaker c.answer_harts.result _ _ (λ failure failed. cant_compare _ _ failure
-    (is_comparison c.args.command c.args.has_locks c.args.harts _ _ c.in-Some.first.now c.as_str-2.result.now
-    (rw c.deref.ensures.value at c.in-Some.ensures.value) (search rules) refl refl) failed)
-    c.answer_harts.ensures.err
+    rw c.from.ensures (no_folder (rw c.in_default.is at c.in_ok-names.ensures.found))

@@ -22,8 +22,7 @@ loop-count-preserved g c =
           rw (w.all-is, w.inputs-is, added.items) (record {
             names = has_one_more (writers c.args.survey.now) c.loop-count.all.items added.script c.loop-count.hart
                 c.in-Some.count.now c.loop-count.rest.now c.in-Some.behind.now (search rules) is added.hart_is inv.names;
-            each = All-push (IsOfHart (g.I.Inputs.paths c.args.inputs.now)
-                c.args.command c.args.import) c.loop-count.all.items added.script inv.each added.of;
+            each = All-push (IsOfHart (g.I.Inputs.paths c.args.inputs.now) c.args.import) c.loop-count.all.items added.script inv.each added.of;
             counts = omega (arith, inv.counts, ap length is);
             paths = w.in_ok-add_hart.ensures.paths ∙ inv.paths;
           })

@@ -8,7 +8,7 @@ use Rattle.pmp_tool.proofs.hart_imports.import_each.Given as goal
 abbrev pub invariant-loop-count : goal.invariant-loop-count
 invariant-loop-count g l = record {
   names : writers l.survey ≡ map (λ script. script.hart) l.all.items ++ writers_from l.hart l.rest;
-  each : All (IsOfHart (g.I.Inputs.paths l.fn.inputs) l.command l.import) l.all.items;
+  each : All (IsOfHart (g.I.Inputs.paths l.fn.inputs) l.import) l.all.items;
   counts : l.hart + length l.rest ≡ COUNTED;
   paths : g.I.Inputs.paths l.inputs ≡ g.I.Inputs.paths l.fn.inputs;
 }

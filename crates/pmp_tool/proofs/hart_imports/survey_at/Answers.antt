@@ -1,7 +1,7 @@
 use Rattle.std.proofs.lemmas.Result.{err_from_is_err_and}
 use Rattle.pmp_text.specs.Inputs.{refusal_of_input}
 use Rattle.pmp_tool.specs.HartImports.{unopened, unsurveyed}
-use Rattle.pmp_tool.proofs.Answering.{bytes_given}
+use Rattle.pmp_tool.proofs.Reading.{bytes_given}
 use Rattle.pmp_tool.proofs.hart_imports.survey_at.Goals as goal
 
 pub returns-in_err-log-clause-err : goal.returns-in_err-log-clause-err

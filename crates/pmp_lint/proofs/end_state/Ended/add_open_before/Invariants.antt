@@ -7,5 +7,5 @@ use Rattle.pmp_lint.proofs.end_state.Ended.add_open_before.Given as goal
 -- the entries so far
 abbrev pub invariant-loop-entry : goal.invariant-loop-entry
 invariant-loop-entry g l =
-    HasTold (flat_map (λ i. option_to_list (open_before_locked l.self.script.now i)) (range_with_len 0 l.entry))
-    (telling (g.S.Sink.text l.fn.out) l.fn.told) (telling (g.S.Sink.text l.out) l.told)
+    HasTold g.R.RowSink.Adds (flat_map (λ i. option_to_list (open_before_locked l.self.script.now i)) (range_with_len 0 l.entry))
+    (telling l.fn.out l.fn.told) (telling l.out l.told)

@@ -7,8 +7,8 @@ use Rattle.pmp_lint.proofs.late_writes.Happening.add_late_writes.Given as goal
 -- the entries so far
 abbrev pub invariant-loop-entry : goal.invariant-loop-entry
 invariant-loop-entry g l =
-    HasTold (flat_map (λ i. option_to_list (late_write (record {
+    HasTold g.R.RowSink.Adds (flat_map (λ i. option_to_list (late_write (record {
       before = l.self.before.now;
       event = l.self.event;
       line = l.self.line;
-    }) i)) (range_with_len 0 l.entry)) (telling (g.S.Sink.text l.fn.out) l.fn.told) (telling (g.S.Sink.text l.out) l.told)
+    }) i)) (range_with_len 0 l.entry)) (telling l.fn.out l.fn.told) (telling l.out l.told)

@@ -7,7 +7,7 @@ use Rattle.pmp_tool.proofs.harts.Harts.find.Goals as goal
 pub returns-in_err-old-clause-unfound : goal.returns-in_err-old-clause-unfound
 returns-in_err-old-clause-unfound g c =
     let p = err_from_is_err_and c.from_residual.result c.from_residual.ensures.1 in
-    rw (p.1, p.2) (unfound_at (g.I.Inputs.paths c.args.inputs.now).folders c.args.command c.args.command.script.now _ _
+    rw (p.1, p.2) (unfound_at (g.I.Inputs.paths c.args.inputs.now).folders _ _ c.args.asking.path.now _ _
     c.in_err-old.ensures.unfound)
 
 pub returns-in_err-new-clause-unfound : goal.returns-in_err-new-clause-unfound
@@ -15,7 +15,7 @@ returns-in_err-new-clause-unfound g c =
     let exit = c.from_residual-in_err-new in
     let p = err_from_is_err_and exit.result exit.ensures.1 in
     let (path, side, unfound) = rw c.in_ok-old.ensures.paths at c.in_err-new.ensures.unfound in
-    rw (p.1, p.2) (unfound_at (g.I.Inputs.paths c.args.inputs.now).folders c.args.command path side _ unfound)
+    rw (p.1, p.2) (unfound_at (g.I.Inputs.paths c.args.inputs.now).folders _ _ path side _ unfound)
 
 pub returns-in_err-harts-clause-unfound : goal.returns-in_err-harts-clause-unfound
 returns-in_err-harts-clause-unfound g c =

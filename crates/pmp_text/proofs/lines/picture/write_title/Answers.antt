@@ -1,0 +1,12 @@
+use Rattle.std.proofs.Common.{◌++◌, codes}
+use Rattle.pmp_text.specs.Picture.{background, title, title_part}
+use Rattle.pmp_text.specs.PictureTexts.{style}
+use Rattle.pmp_text.proofs.Picture.{between}
+use Rattle.pmp_text.proofs.lines.picture.write_title.Goals as goal
+
+pub returns-clause-ok : goal.returns-clause-ok
+unfolding title_part style
+returns-clause-ok g c = rw (
+  ← c.width_word-width.ensures,
+  between (codes "<title>") (title c.args.drawing.publications) _ (style ++ background c.width_word-width.result.now),
+) c.append_text.ensures.ok

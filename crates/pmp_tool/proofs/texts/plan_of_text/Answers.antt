@@ -1,0 +1,19 @@
+use Rattle.std.proofs.Common.{refl}
+use Rattle.std.proofs.lemmas.Result.{err_from_is_err_and}
+use Rattle.pmp_tool.specs.Questions.{read_input, unread_input}
+use Rattle.pmp_tool.proofs.texts.plan_of_text.Goals as goal
+
+pub returns-in_err-script-clause-err : goal.returns-in_err-script-clause-err
+returns-in_err-script-clause-err g c =
+    let p = err_from_is_err_and c.from_residual.result c.from_residual.ensures.1 in
+    rw (p.1, p.2) (unread_input c.in_err-script.field-0.0 c.in_err-script.ensures.unread)
+
+pub returns-in_err-implemented_plan-clause-err : goal.returns-in_err-implemented_plan-clause-err
+returns-in_err-implemented_plan-clause-err g c =
+    let exit = c.from_residual-in_err-implemented_plan in
+    let p = err_from_is_err_and exit.result exit.ensures.1 in
+    rw (p.1, p.2) (read_input c.in_ok-script.script.items _ c.in_ok-script.ensures.read (record {
+      fault = c.in_err-implemented_plan.field-0.0;
+      is = refl;
+      fails = rw c.deref.ensures.value at c.in_err-implemented_plan.ensures.err;
+    }))
