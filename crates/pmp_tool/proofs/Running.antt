@@ -29,8 +29,9 @@ use Rattle.pmp_tool.specs.Commands.{names_path_in, task_of}
 use Rattle.pmp_tool.specs.Failures.{failure_status, unaudited, unparsed, unparsed_as}
 use Rattle.pmp_tool.specs.Failures.{unnamed as unnamed_so}
 use Rattle.pmp_tool.specs.Inputs.{AreBytesOf, Inputs, Paths}
-use Rattle.pmp_tool.specs.Runs.{Answers, Does, DoesNot, Fails, IsUnasked, IsUndone, TellingFails, bad_names, does, does_not}
-use Rattle.pmp_tool.specs.Runs.{has_no_text, no_memory, no_output, no_room, no_room_for_names, no_text, refused_words, tells}
+use Rattle.pmp_tool.specs.Runs.{Answers, Does, DoesNot, Fails, IsUnasked, IsUndone, TellingFails, bad_names, does}
+use Rattle.pmp_tool.specs.Runs.{does_not, has_no_text, no_memory, no_output, no_room, no_room_for_names, no_text}
+use Rattle.pmp_tool.specs.Runs.{refused_words, tells}
 use Rattle.pmp_tool.specs.Runs.{unasked, undone, unmade, unprinted, unstreamed}
 use Rattle.pmp_tool.specs.Streams.{AuditByRefuses, ReportFails, StreamFails, no_script, no_trace, unaudited_trace}
 
@@ -87,7 +88,7 @@ report_keeps : {paths : Paths} {before after : Option (List ℕ)} {path : Text} 
     → ReportFails paths before after path audit failure → failure_status failure ≡ 2 → Keeps before after
 report_keeps (no_script fault cant keeps) two = keeps
 report_keeps (no_trace fault cant keeps) two = keeps
-report_keeps {before = before} {after = after} {audit = audit} (unaudited_trace script trace fault is_script is_trace refused) two =
+report_keeps {before = before} {after = after} {audit = audit} (unaudited_trace script trace fault _ _ refused) two =
     refused_keeps (AuditSays script trace) before after (AuditByRefuses audit.checkers script trace) fault refused two
 
 -- a long audit or an import is what the words ask for
@@ -111,26 +112,19 @@ stream_keeps words names paths before after logs (request.Import import) failure
   names = names;
   task = asks;
 }))
-stream_keeps words names paths before after logs (request.Print (printed.Ask path (question.Audit audit))) failure asks fails two = inr (report_keeps fails.1 two)
-stream_keeps words names paths before after logs (request.Print (printed.Ask path (question.Check asked))) failure asks fails two =
-    absurd fails
-stream_keeps words names paths before after logs (request.Print (printed.Ask path (question.Why asked))) failure asks fails two =
-    absurd fails
-stream_keeps words names paths before after logs (request.Print (printed.Ask path (question.Policy asked))) failure asks fails two =
-    absurd fails
-stream_keeps words names paths before after logs (request.Print (printed.Ask path (question.List listing when))) failure asks fails two =
-    absurd fails
-stream_keeps words names paths before after logs (request.Print (printed.Ask path (question.Writes accepted))) failure asks fails two =
-    absurd fails
-stream_keeps words names paths before after logs (request.Print (printed.Ask path (question.Lint accepted))) failure asks fails two =
-    absurd fails
-stream_keeps words names paths before after logs (request.Print (printed.Ask path (question.Diff asked))) failure asks fails two =
-    absurd fails
-stream_keeps words names paths before after logs (request.Print (printed.Harts folder has_locks)) failure asks fails two = absurd fails
-stream_keeps words names paths before after logs (request.Print (printed.Show show)) failure asks fails two = absurd fails
-stream_keeps words names paths before after logs (request.Print (printed.Plan plan)) failure asks fails two = absurd fails
-stream_keeps words names paths before after logs (request.Print (printed.PlanOf path)) failure asks fails two = absurd fails
-stream_keeps words names paths before after logs (request.Print (printed.PolicyFrom path)) failure asks fails two = absurd fails
+stream_keeps _ _ _ _ _ _ (request.Print (printed.Ask _ (question.Audit _))) _ _ fails two = inr (report_keeps fails.1 two)
+stream_keeps _ _ _ _ _ _ (request.Print (printed.Ask _ (question.Check _))) _ _ fails _ = absurd fails
+stream_keeps _ _ _ _ _ _ (request.Print (printed.Ask _ (question.Why _))) _ _ fails _ = absurd fails
+stream_keeps _ _ _ _ _ _ (request.Print (printed.Ask _ (question.Policy _))) _ _ fails _ = absurd fails
+stream_keeps _ _ _ _ _ _ (request.Print (printed.Ask _ (question.List _ _))) _ _ fails _ = absurd fails
+stream_keeps _ _ _ _ _ _ (request.Print (printed.Ask _ (question.Writes _))) _ _ fails _ = absurd fails
+stream_keeps _ _ _ _ _ _ (request.Print (printed.Ask _ (question.Lint _))) _ _ fails _ = absurd fails
+stream_keeps _ _ _ _ _ _ (request.Print (printed.Ask _ (question.Diff _))) _ _ fails _ = absurd fails
+stream_keeps _ _ _ _ _ _ (request.Print (printed.Harts _ _)) _ _ fails _ = absurd fails
+stream_keeps _ _ _ _ _ _ (request.Print (printed.Show _)) _ _ fails _ = absurd fails
+stream_keeps _ _ _ _ _ _ (request.Print (printed.Plan _)) _ _ fails _ = absurd fails
+stream_keeps _ _ _ _ _ _ (request.Print (printed.PlanOf _)) _ _ fails _ = absurd fails
+stream_keeps _ _ _ _ _ _ (request.Print (printed.PolicyFrom _)) _ _ fails _ = absurd fails
 
 text_keeps : {before after : Option (List ℕ)} {failure : Failure} → TellingFails before after failure
     → failure_status failure ≡ 2 → Keeps before after
@@ -167,7 +161,7 @@ undone_keeps words names paths form before after _ _ asks (has_no_text printed f
 undone_keeps words names paths form before after _ _ asks (unprinted printed outcome text says front) two = absurd cc
 undone_keeps words names paths form before after _ _ asks (unstreamed request failure none fails) two =
     stream_keeps words (unwrap_or names []) _ before after paths.traces request failure asks fails two
-undone_keeps words names paths form before after _ _ asks (unmade request import path failure is cant keeps) two = inr keeps
+undone_keeps words names paths form before after _ _ asks (unmade _ _ _ _ _ _ keeps) two = inr keeps
 
 none_kept : (words : List Text) {paths : Paths} {before after : Option (List ℕ)} {failure : Failure}
     → fault_of pmp_app words ≡ [] → DoesNot (subcommand_of pmp_app words) paths before after failure
