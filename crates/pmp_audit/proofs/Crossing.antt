@@ -2,7 +2,7 @@
 use denote.Param.Send.{IsSend, sendable}
 use denote.Param.SendFields.{declared_send, as_row_send}
 use Rattle.std.proofs.Crossing.{crosses}
-use Rattle.pmp_audit.specs.contracts.fault.ReportFault as fault
+use Rattle.pmp_text.specs.contracts.fault.Fault as fault
 use Rattle.pmp_audit.specs.contracts.shared_audit.job.Job as job
 use Rattle.pmp_audit.specs.contracts.shared_audit.job.Done as done
 use Rattle.pmp_share.proofs.Crossing.{checker_send, notice_send}

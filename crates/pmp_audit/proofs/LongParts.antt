@@ -8,14 +8,14 @@ use Rattle.std.specs.Io.KnownBytes.{Appends}
 use Rattle.std.proofs.KnownBytes.{Appends-trans}
 use Rattle.std.proofs.lemmas.List.{drop_more, take-append-drop, take_more}
 use Rattle.std.proofs.lemmas.List.Concat.{flat_map-append}
-use Rattle.pmp_text.specs.declared.trace.rows.Place.{Place}
+use Rattle.pmp_text.specs.declared.trace.rows.Position.{Position}
 use Rattle.pmp_text.specs.Bytes.{AppendsBeginning}
 use Rattle.pmp_text.specs.Contents.{ScriptContents}
 use Rattle.pmp_text.specs.LongTraces.{Records, place_behind}
 use Rattle.pmp_text.specs.Tables.{is_line_end, records_of}
 use Rattle.pmp_text.proofs.PieceFaults.{apart, places_in_turn}
 use Rattle.pmp_text.specs.Moments.{moments_in}
-use Rattle.pmp_audit.specs.declared.fault.ReportFault.{ReportFault}
+use Rattle.pmp_text.specs.declared.fault.Fault.{Fault}
 use Rattle.pmp_audit.specs.declared.piece.PieceReport.{PieceReport}
 use Rattle.pmp_audit.specs.declared.standing.Standing.{Standing}
 use Rattle.pmp_audit.specs.LongParts.{AreJoined, IsBoth, items_of}
@@ -57,7 +57,7 @@ module _ (script : ScriptContents) (standing middle : Standing) (front back both
         (there : IsPieceReported script high middle back) where
       meets : middle.place ≡ record front.behind.place { bare = None }
       meets = ap (λ (s : Standing). s.place) fresh
-          ∙ sym (ap (λ (p : Place). record p { bare = None }) joined.meets)
+          ∙ sym (ap (λ (p : Position). record p { bare = None }) joined.meets)
 
       behind_low : middle.place ≡ record front.behind.place { bare = middle.place.bare }
       behind_low = meets ∙ ap (λ (bare : Option ℕ). record front.behind.place { bare = bare })
@@ -68,9 +68,9 @@ module _ (script : ScriptContents) (standing middle : Standing) (front back both
           rw (ap items_of joined.texts ∙ flat_map-append _ front.texts.items back.texts.items)
           (together here there behind_low both.behind
           (joined.place
-          ∙ ap (λ (p : Place). record p { bare = option_or front.behind.place.bare p.bare })
-          (there.place ∙ ap (λ (p : Place). place_behind (moments_in script) p high) meets)
-          ∙ ap (λ (p : Place). place_behind (moments_in script) p high) here.place
+          ∙ ap (λ (p : Position). record p { bare = option_or front.behind.place.bare p.bare })
+          (there.place ∙ ap (λ (p : Position). place_behind (moments_in script) p high) meets)
+          ∙ ap (λ (p : Position). place_behind (moments_in script) p high) here.place
           ∙ sym (places_in_turn (moments_in script) standing.place low high))
           (let faults = joined.faults in let none = ap (λ (s : Standing). s.faults) fresh in omega arith))
 
@@ -79,7 +79,7 @@ module _ (script : ScriptContents) (standing middle : Standing)
     (fresh : middle ≡ record { place = record middle.place { bare = None }; faults = 0 }) (text low high : List ℕ)
     (end : ℕ) (inside : end < length text) (ends : is_line_end (get_or text end 0) ≡ true)
     (low_is : low ≡ take (end + 1) text) (high_is : high ≡ drop end text) (both : PieceReport) where
-  pub parts_reported : (front back : Result PieceReport ReportFault)
+  pub parts_reported : (front back : Result PieceReport Fault)
       → IfOk front (IsPieceReported script (records_of low) standing)
       → IfOk back (IsPieceReported script (records_of high) middle) → AreJoined front middle back both
       → IsPieceReported script (records_of text) standing both

@@ -6,35 +6,31 @@ use Rattle.std.specs.Prelude.{IfSome, MatchResult}
 use Rattle.std.specs.Io.KnownBytes.{Appends, Consumes}
 use Rattle.std.proofs.KnownBytes.{Appends-trans, Consumes-trans, Keeps-refl}
 use Rattle.std.proofs.lemmas.List.{length-append}
-use Rattle.pmp_text.specs.declared.script.LineFault.{LineFault}
+use Rattle.pmp_text.specs.declared.fault.Fault.{Fault}
 use Rattle.pmp_text.specs.declared.input.InputFault.{InputFault}
 use Rattle.pmp_text.specs.declared.input.InputFault.TheVariants as input
-use Rattle.pmp_text.specs.Inputs.{refusal_of_input}
-use Rattle.pmp_text.specs.declared.refusal.Refusal.TheVariants as kinds
 use Rattle.pmp_text.specs.declared.refusal.Refusal.TheVariants.{BadHeader}
 use Rattle.pmp_text.specs.Bytes.{AppendsBeginning}
 use Rattle.pmp_text.specs.Contents.{ScriptContents}
 use Rattle.pmp_text.specs.Cutting.{IsCut, IsFront, IsLast}
-use Rattle.pmp_text.specs.LongTraces.{HasLongLine, piece_fault}
-use Rattle.pmp_text.specs.Outcomes.{out_of_memory}
+use Rattle.pmp_text.specs.LongTraces.{HasLongLine, piece_fault, too_long_for_rows}
+use Rattle.pmp_text.specs.Outcomes.{no_memory, no_output}
 use Rattle.pmp_text.specs.Scripts.{script_meaning}
 use Rattle.pmp_text.specs.Tables.{records_of}
 use Rattle.pmp_text.specs.Flaws.{as_whole, at_row}
 use Rattle.pmp_text.proofs.PieceFaults as pieces
 use Rattle.pmp_text.specs.Moments.{moments_in}
-use Rattle.pmp_audit.specs.declared.fault.ReportFault.{ReportFault}
-use Rattle.pmp_audit.specs.declared.fault.ReportFault.TheVariants.{Output, Script, Trace}
 use Rattle.pmp_audit.specs.declared.standing.Standing.{Standing}
 use Rattle.pmp_audit.specs.declared.trace_audit.AuditSummary.{AuditSummary}
 use Rattle.pmp_audit.specs.Answers.{IsWritten}
-use Rattle.pmp_audit.specs.Fault.{fault_of_script}
 use Rattle.pmp_audit.specs.LongAudit.{LongAuditSays, StopsLong}
-use Rattle.pmp_audit.specs.LongPieces.{IsReported, PieceFails, fault_of_cut}
-use Rattle.pmp_audit.proofs.FaultyInputs.{by_kind}
+use Rattle.pmp_audit.specs.LongPieces.{IsReported, PieceFails}
 use Rattle.pmp_audit.proofs.PieceTexts.{one_after, start}
 use Rattle.pmp_audit.proofs.LongSteps.{Going, none_left, whole_trace}
-use Rattle.pmp_audit.proofs.LongStops.{IsPieceOf, cut_short, no_header, no_input, piece_fails, says_all, too_long}
+use Rattle.pmp_audit.proofs.LongStops.{IsPieceOf, cut_short, no_header, no_input_there, piece_fails, says_all, too_long}
 use Rattle.pmp_audit.proofs.LongStops.{wrote_front}
+use Rattle.pmp_text.specs.Inputs.{input_fault}
+use Rattle.pmp_text.specs.declared.fault.Source.TheVariants as source
 
 -- ---- no script
 
@@ -43,15 +39,14 @@ any_trace None = tt
 any_trace (Some those) = refl
 
 module _ (limit : ℕ) (script : List ℕ) (first : ℕ) (in_old out : Option (List ℕ)) where
-  refused : (fault : LineFault) → (script_meaning script ≡ Err fault) ⊎ (fault ≡ out_of_memory)
-      → StopsLong limit script first (unwrap_or in_old []) out out (fault_of_script fault)
-  refused fault (inl means) = by_kind (StopsLong limit script first (unwrap_or in_old []) out out)
-      (inl (Keeps-refl out)) (Script fault) (means, Keeps-refl out) fault.kind
-  refused fault (inr is) = rw is (inl (Keeps-refl out))
+  refused : (fault : Fault) → (script_meaning script ≡ Err fault) ⊎ (fault ≡ no_memory)
+      → StopsLong limit script first (unwrap_or in_old []) out out fault
+  refused fault (inl means) = inl (means, Keeps-refl out)
+  refused fault (inr memory) = inr (inr (inl (memory, inl (Keeps-refl out))))
 
-  pub script_stops : (fault : LineFault) → (script_meaning script ≡ Err fault) ⊎ (fault ≡ out_of_memory)
+  pub script_stops : (fault : Fault) → (script_meaning script ≡ Err fault) ⊎ (fault ≡ no_memory)
       → (trace : List ℕ) × IfSome in_old (λ those. trace ≡ those)
-      × StopsLong limit script first trace out out (fault_of_script fault)
+      × StopsLong limit script first trace out out fault
   script_stops fault why = (unwrap_or in_old [], any_trace in_old, refused fault why)
 
 known_as : (known : Option (List ℕ)) (one other : List ℕ) → one ≡ other → IfSome known (λ those. one ≡ those)
@@ -146,7 +141,7 @@ module _ {script : ScriptContents} {first count : ℕ} {in_old in_mid : Option (
       }
 
     -- the audit stops so, whatever text means the script
-    abbrev pub Stops : Option (List ℕ) → ReportFault → Type 0
+    abbrev pub Stops : Option (List ℕ) → Fault → Type 0
     Stops out_new fault = (text : List ℕ) → script_meaning text ≡ Ok script → (trace : List ℕ)
         × IfSome in_old (λ those. trace ≡ those) × StopsLong limit text first trace out_old out_new fault
 
@@ -170,7 +165,7 @@ module _ {script : ScriptContents} {first count : ℕ} {in_old in_mid : Option (
         record { trace = trace_all piece cut; known = all_known piece cut; here = last_piece piece cut }
 
     module _ (piece : List ℕ) (has : HasPiece piece) where
-      pub fails : (fault : ReportFault) → PieceFails script (records_of piece) old fault → Stops out_mid fault
+      pub fails : (fault : Fault) → PieceFails script (records_of piece) old fault → Stops out_mid fault
       fails fault why = λ text means. (
         has.trace,
         has.known,
@@ -178,7 +173,7 @@ module _ {script : ScriptContents} {first count : ℕ} {in_old in_mid : Option (
       )
 
       pub stops_short : (new : Standing) (more : List ℕ) → IsReported script (records_of piece) old new more
-          → (out_new : Option (List ℕ)) → AppendsBeginning out_mid out_new more → Stops out_new Output
+          → (out_new : Option (List ℕ)) → AppendsBeginning out_mid out_new more → Stops out_new no_output
       stops_short new more reported out_new wrote = λ text means. (
         has.trace,
         has.known,
@@ -189,7 +184,7 @@ module _ {script : ScriptContents} {first count : ℕ} {in_old in_mid : Option (
     -- ---- no piece
 
     pub cut_stops : (left : List ℕ) (fault : InputFault) → IsCut limit held in_mid in_new left (Err fault)
-        → Stops out_mid (fault_of_cut (refusal_of_input fault))
+        → Stops out_mid (input_fault source.Trace fault)
     cut_stops left input.TooLong uncut = λ text means. (
       trace_taken uncut.taken uncut.consumed,
       taken_known uncut.taken uncut.consumed,
@@ -200,16 +195,19 @@ module _ {script : ScriptContents} {first count : ℕ} {in_old in_mid : Option (
     cut_stops left input.Input uncut = λ text means. (
       trace_held,
       held_known,
-      no_input text means limit going.stands out_old out_mid going.written _ _ (going.apart (unwrap_or in_mid [])),
+      no_input_there text means limit going.stands out_old out_mid going.written _ _ (going.apart (unwrap_or in_mid [])),
     )
     cut_stops left input.Memory uncut = λ text means. (
       trace_held,
       held_known,
-      inr (wrote_front text means limit going.stands out_old out_mid going.written _ _
-          (going.apart (unwrap_or in_mid []))),
+      inr (inr (inl (
+        refl,
+        inr (wrote_front text means limit going.stands out_old out_mid going.written _ _
+            (going.apart (unwrap_or in_mid []))),
+      ))),
     )
 
-    pub no_turn : 2 ^ 64 - 1 ≤ count → Stops out_mid (fault_of_cut kinds.TooLong)
+    pub no_turn : 2 ^ 64 - 1 ≤ count → Stops out_mid too_long_for_rows
     no_turn turns = λ text means. (
       trace_held,
       held_known,
@@ -229,13 +227,13 @@ module _ {script : ScriptContents} {first count : ℕ} {in_old in_mid : Option (
       all_written : Appends out_old out_new (going.text ++ more)
       all_written = Appends-trans _ _ _ _ _ going.written wrote
 
-      abbrev pub Ends : Result AuditSummary ReportFault → Type 0
+      abbrev pub Ends : Result AuditSummary Fault → Type 0
       Ends result = MatchResult result
           (λ summary. (new.place.begun ≡ true)
           × (summary ≡ record { rows = new.place.next - first; faults = new.faults; bare = new.place.bare }))
-          (λ fault. (new.place.begun ≡ false) × (fault ≡ Trace (at_row 0 (as_whole BadHeader))))
+          (λ fault. (new.place.begun ≡ false) × (fault ≡ at_row source.Trace 0 (as_whole BadHeader)))
 
-      pub ends_well : (result : Result AuditSummary ReportFault) → Ends result → (text : List ℕ)
+      pub ends_well : (result : Result AuditSummary Fault) → Ends result → (text : List ℕ)
           → script_meaning text ≡ Ok script → IfOk result (λ summary. (trace : List ℕ)
           × IfSome in_old (λ those. trace ≡ those) × IsWritten (LongAuditSays text first trace) out_old out_new summary)
       ends_well (Err fault) ends text means = tt
@@ -249,7 +247,7 @@ module _ {script : ScriptContents} {first count : ℕ} {in_old in_mid : Option (
         },
       )
 
-      pub ends_badly : (result : Result AuditSummary ReportFault) → Ends result → (text : List ℕ)
+      pub ends_badly : (result : Result AuditSummary Fault) → Ends result → (text : List ℕ)
           → script_meaning text ≡ Ok script → IfErr result (λ fault. (trace : List ℕ)
           × IfSome in_old (λ those. trace ≡ those) × StopsLong limit text first trace out_old out_new fault)
       ends_badly (Ok summary) ends text means = tt
@@ -257,7 +255,7 @@ module _ {script : ScriptContents} {first count : ℕ} {in_old in_mid : Option (
           let are = all_are piece cut in (
             trace_all piece cut,
             all_known piece cut,
-            rw is (
+            rw is (inr (inl (
               record {
                 contents = script;
                 script_means = means;
@@ -265,5 +263,5 @@ module _ {script : ScriptContents} {first count : ℕ} {in_old in_mid : Option (
               },
               wrote_front text means limit all_read out_old out_new all_written _ []
                   (are ∙ sym (append-nil (going.records ++ records_of piece))),
-            ),
+            ))),
           )

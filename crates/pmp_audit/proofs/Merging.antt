@@ -16,7 +16,7 @@ use Rattle.pmp_share.specs.Batches.{Batches, file_from}
 use Rattle.pmp_share.specs.declared.knowledge.Known.{Known}
 use Rattle.pmp_share.specs.Tokens.{PublisherToken}
 use Rattle.pmp_text.specs.declared.trace.TraceRow.{TraceRow}
-use Rattle.pmp_audit.specs.declared.fault.ReportFault.{ReportFault}
+use Rattle.pmp_text.specs.declared.fault.Fault.{Fault}
 use Rattle.pmp_audit.specs.declared.shared_audit.job.Done.{Done}
 use Rattle.pmp_audit.specs.declared.shared_audit.job.Job.{Job}
 use Rattle.pmp_audit.specs.Rounds.{AreCheckersOf, AreDealt, AreJobs, AreResults, IsJob, IsResult}
@@ -95,22 +95,22 @@ one_job publisher count jobs new job so_far is pushed =
 
 -- ---- what all workers bring back
 
-done_at : (results : List (Result Done ReportFault)) (all : List Done) (worker : ℕ) (done : Done)
+done_at : (results : List (Result Done Fault)) (all : List Done) (worker : ℕ) (done : Done)
     → results ≡ map Ok all → slice_get all worker ≡ Some done → get_or results worker (Ok done) ≡ Ok done
 done_at results all worker done same at =
-    ap (λ (l : List (Result Done ReportFault)). get_or l worker (Ok done)) same
+    ap (λ (l : List (Result Done Fault)). get_or l worker (Ok done)) same
     ∙ get_or-map Ok all worker done (Ok done) (slice_get_within all worker done at)
     ∙ ap Ok (get_or_from_slice_get all worker done done at)
 
 -- each of so many workers was given a job, and all brought back what `work` says of it
 module _ (publisher : PublisherToken) (count first : ℕ) (rows : List TraceRow) (jobs : List Job)
-    (results : List (Result Done ReportFault)) (all : List Done) (are : AreJobs publisher count jobs)
+    (results : List (Result Done Fault)) (all : List Done) (are : AreJobs publisher count jobs)
     (same : results ≡ map Ok all) (made : AreResults (length jobs) first rows jobs results) where
   abbrev file : RegisterFile
   file = file_from publisher.unit.base publisher.published
 
   all_many : length all ≡ count
-  all_many = sym (length-map all Ok) ∙ sym (ap (λ (l : List (Result Done ReportFault)). length l) same) ∙ made.many ∙ are.many
+  all_many = sym (length-map all Ok) ∙ sym (ap (λ (l : List (Result Done Fault)). length l) same) ∙ made.many ∙ are.many
 
   -- so each is done with the rows of its number, in the file of what is published
   pub all_met : (worker : ℕ) (done : Done) → slice_get all worker ≡ Some done
@@ -121,7 +121,7 @@ module _ (publisher : PublisherToken) (count first : ℕ) (rows : List TraceRow)
       let (job, job_is, is) = made.each worker (Ok done) inside in
       let at_job : slice_get jobs worker ≡ Some job = slice_get-get_or jobs worker job inside ∙ ap Some (job_is job) in
       let own : IsDone job.checker.unit (file_from job.checker.unit.base job.notice.list) job.worker (length jobs) first
-      rows done = subst (λ (r : Result Done ReportFault). IfOk r (IsDone job.checker.unit
+      rows done = subst (λ (r : Result Done Fault). IfOk r (IsDone job.checker.unit
       (file_from job.checker.unit.base job.notice.list) job.worker (length jobs) first rows))
       (done_at results all worker done same at) is.done in
       let j : IsJob publisher worker job = are.each worker job at_job in
@@ -151,21 +151,21 @@ module _ (publisher : PublisherToken) (count first : ℕ) (rows : List TraceRow)
 
 -- what stopped a worker may stop the round
 pub stopped : (publisher : PublisherToken) (count first : ℕ) (rows : List TraceRow) (jobs : List Job)
-    (results : List (Result Done ReportFault)) (fault : ReportFault) → AreJobs publisher count jobs
+    (results : List (Result Done Fault)) (fault : Fault) → AreJobs publisher count jobs
     → AreResults (length jobs) first rows jobs results → Contains results (Err fault)
     → StopsRound publisher.published fault
 stopped publisher count first rows jobs results fault are made (k, within, at) =
     let inside : k < length jobs = omega (arith, made.many, within) in
     let (job, job_is, is) = made.each k (Err fault) inside in
     let own : StopsRound job.notice.list fault =
-    subst (λ (r : Result Done ReportFault). IfErr r (StopsRound job.notice.list)) at is.refused in
+    subst (λ (r : Result Done Fault). IfErr r (StopsRound job.notice.list)) at is.refused in
     let j : IsJob publisher k job = are.each k job (slice_get-get_or jobs k job inside ∙ ap Some (job_is job)) in
     subst (λ (told : Batches). StopsRound told fault) (ap (λ (n : Known). n.list) j.notice) own
 
 -- ---- one result more
 
-module _ (workers first : ℕ) (rows : List TraceRow) (jobs : List Job) (results : List (Result Done ReportFault))
-    (so_far : AreResults workers first rows jobs results) (job : Job) (result : Result Done ReportFault)
+module _ (workers first : ℕ) (rows : List TraceRow) (jobs : List Job) (results : List (Result Done Fault))
+    (so_far : AreResults workers first rows jobs results) (job : Job) (result : Result Done Fault)
     (is : IsResult workers first rows job result) where
   pub one_result : AreResults workers first rows (jobs ++ job ∷ []) (results ++ result ∷ [])
   one_result = record {

@@ -7,25 +7,21 @@ use Rattle.std.specs.Option.{option_or}
 use Rattle.std.proofs.lemmas.List.{length-append}
 use Rattle.pmp_core.specs.declared.decision.Decision.{Decision}
 use Rattle.pmp_text.specs.declared.trace.TraceRow.{TraceRow}
-use Rattle.pmp_text.specs.declared.trace.RowFault.{RowFault}
-use Rattle.pmp_text.specs.declared.trace.rows.Place.{Place}
+use Rattle.pmp_text.specs.declared.fault.Fault.{Fault}
+use Rattle.pmp_text.specs.declared.trace.rows.Position.{Position}
 use Rattle.pmp_text.specs.Contents.{ScriptContents}
 use Rattle.pmp_text.specs.LongTraces.{HasTooManyRows, IsHeaded, Records, first_fault_at, has_begun, is_bare_record}
 use Rattle.pmp_text.specs.LongTraces.{piece_fault, place_behind, report_text_from, row_records, too_long_for_rows}
-use Rattle.pmp_text.specs.Outcomes.{no_input_for_rows, no_memory_for_rows}
+use Rattle.pmp_text.specs.Outcomes.{no_memory}
 use Rattle.pmp_text.specs.Reports.{report_row}
 use Rattle.pmp_text.specs.RowsLeft.{IsNextRow, IsOutOfNumbers, RowsLeft, place_after}
 use Rattle.pmp_text.specs.Traces.{first_row_fault, row_fault, row_fields, row_in, row_of_record}
 use Rattle.pmp_text.proofs.LeastRows.{least_of, rows_in_order}
 use Rattle.pmp_text.specs.Moments.{KnownMoments, moments_in}
-use Rattle.pmp_audit.specs.declared.fault.ReportFault.{ReportFault}
-use Rattle.pmp_audit.specs.declared.fault.ReportFault.TheVariants.{Trace, Memory}
 use Rattle.pmp_audit.specs.declared.piece.PieceReport.{PieceReport}
 use Rattle.pmp_audit.specs.declared.standing.Standing.{Standing}
-use Rattle.pmp_audit.specs.Fault.{fault_of_trace}
 use Rattle.pmp_audit.specs.Report.{refused_count}
 use Rattle.pmp_audit.specs.LongPieces.{IsPieceReported, IsReported, PieceFails}
-use Rattle.pmp_audit.proofs.FaultyInputs.{by_kind}
 use Rattle.pmp_audit.proofs.PieceTexts.{fault_behind, one_after, too_many_in_all}
 use Rattle.pmp_audit.proofs.Reports.{Decides, refused-push}
 
@@ -39,15 +35,14 @@ pub record Reported (script : ScriptContents) (standing : Standing) (records : R
 
 -- ---- why a piece isn't reported
 
-module _ (script : ScriptContents) (records : Records) (standing : Standing) (fault : RowFault) where
+module _ (script : ScriptContents) (records : Records) (standing : Standing) (fault : Fault) where
   pub piece_fails : (piece_fault (moments_in script) standing.place records ≡ Some fault)
-      ⊎ (fault ≡ no_memory_for_rows) ⊎ (fault ≡ no_input_for_rows)
+      ⊎ (fault ≡ no_memory)
       ⊎ ((fault ≡ too_long_for_rows) × HasTooManyRows (moments_in script) standing.place records)
-      → PieceFails script records standing (fault_of_trace fault)
-  piece_fails (inl e) = by_kind (PieceFails script records standing) tt (Trace fault) (inl e) fault.kind
-  piece_fails (inr (inl memory)) = rw memory tt
-  piece_fails (inr (inr (inl input))) = rw input (inr (inl refl))
-  piece_fails (inr (inr (inr (long, many)))) = rw long (inr (inr (refl, many)))
+      → PieceFails script records standing fault
+  piece_fails (inl e) = inr (inl e)
+  piece_fails (inr (inl memory)) = inl memory
+  piece_fails (inr (inr many)) = inr (inr many)
 
 -- ---- no row is left where no header was read
 
@@ -113,7 +108,7 @@ none_reported script standing left here same = record {
 
 -- ---- one row more
 
-row_place : (moments : KnownMoments) (place : Place) (fields : List (List ℕ)) (row : TraceRow) → place.begun ≡ true
+row_place : (moments : KnownMoments) (place : Position) (fields : List (List ℕ)) (row : TraceRow) → place.begun ≡ true
     → row_in moments fields ≡ Ok (row_fields row) → place_after place row ≡ place_behind moments place (fields ∷ [])
 row_place moments place fields row begun said = rw (begun, is_bare_record, said) refl
 
@@ -125,7 +120,7 @@ module _ {script : ScriptContents} {standing : Standing} {records : Records} {le
   begun_before fields behind e =
       let first = has_header standing.place.begun records so_far.done fields behind header
       (so_far.all ∙ ap (λ (l : Records). so_far.done ++ l) e) in
-      ap (λ (p : Place). p.begun) so_far.so_far.place ∙ ap (λ (b : Bool). has_begun b so_far.done) first
+      ap (λ (p : Position). p.begun) so_far.so_far.place ∙ ap (λ (b : Bool). has_begun b so_far.done) first
 
   module _ {row : TraceRow} {after : RowsLeft} (is : IsNextRow left row after) where
     said_here : row_in (moments_in script) is.fields ≡ Ok (row_fields row)
@@ -146,7 +141,7 @@ module _ {script : ScriptContents} {standing : Standing} {records : Records} {le
         (order.0, order.1)
 
     pub last_is : after.place.last ≡ Some row.after
-    last_is = ap (λ (p : Place). p.last) is.place
+    last_is = ap (λ (p : Position). p.last) is.place
 
     begun : left.place.begun ≡ true
     begun = begun_before is.fields after.records is.next
@@ -219,18 +214,17 @@ module _ {script : ScriptContents} {standing : Standing} {records : Records} {le
       } in
       subst (HasTooManyRows moments standing.place) (sym so_far.all) (too_many_in_all so_far.so_far left.records here)
 
-  pub row_fails : (fault : RowFault)
+  pub row_fails : (fault : Fault)
       → (first_row_fault left.moments left.place.last left.place.next left.records ≡ Some fault)
-      ⊎ (fault ≡ no_memory_for_rows) ⊎ (fault ≡ no_input_for_rows)
+      ⊎ (fault ≡ no_memory)
       ⊎ ((fault ≡ too_long_for_rows) × IsOutOfNumbers left)
-      → PieceFails script records standing (fault_of_trace fault)
+      → PieceFails script records standing fault
   row_fails fault (inl e) = piece_fails script records standing fault (inl (fault_left
       ∙ subst (λ (m : KnownMoments). first_row_fault m left.place.last left.place.next left.records ≡ Some fault)
       so_far.same e))
   row_fails fault (inr (inl memory)) = piece_fails script records standing fault (inr (inl memory))
-  row_fails fault (inr (inr (inl input))) = piece_fails script records standing fault (inr (inr (inl input)))
-  row_fails fault (inr (inr (inr (long, out)))) =
-      piece_fails script records standing fault (inr (inr (inr (long, too_many out))))
+  row_fails fault (inr (inr (long, out))) =
+      piece_fails script records standing fault (inr (inr (long, too_many out)))
 
 -- ---- the header
 
@@ -297,7 +291,7 @@ module _ (script : ScriptContents) (standing : Standing) (records : Records) whe
         standing.place.bare
         records
 
-    pub with_header : (answer : Result PieceReport ReportFault) → IfOk answer (IsPieceReported script rows behind)
+    pub with_header : (answer : Result PieceReport Fault) → IfOk answer (IsPieceReported script rows behind)
         → IfOk answer (IsPieceReported script records standing)
     with_header (Err fault) reported = reported
     with_header (Ok report) reported =
@@ -316,18 +310,16 @@ module _ (script : ScriptContents) (standing : Standing) (records : Records) whe
           counted = reported.counted;
         }
 
-    fails_so : (fault : ReportFault) → PieceFails script rows behind fault → PieceFails script records standing fault
-    fails_so (Trace fault) (inl e) = inl (same_fault ∙ e)
-    fails_so (Trace fault) (inr (inl input)) = inr (inl input)
-    fails_so (Trace fault) (inr (inr (long, many))) = inr (inr (
+    fails_so : (fault : Fault) → PieceFails script rows behind fault → PieceFails script records standing fault
+    fails_so fault (inl memory) = inl memory
+    fails_so fault (inr (inl e)) = inr (inl (same_fault ∙ e))
+    fails_so fault (inr (inr (long, many))) = inr (inr (
       long,
       too_many_as_left (moments_in script) standing.place.begun standing.place.last standing.place.next
           standing.place.bare records headed many,
     ))
-    fails_so Memory why = tt
-    fails_so fault why = absurd why
 
-    pub fails_with_header : (answer : Result PieceReport ReportFault) → IfErr answer (PieceFails script rows behind)
+    pub fails_with_header : (answer : Result PieceReport Fault) → IfErr answer (PieceFails script rows behind)
         → IfErr answer (PieceFails script records standing)
     fails_with_header (Ok report) why = why
     fails_with_header (Err fault) why = fails_so fault why

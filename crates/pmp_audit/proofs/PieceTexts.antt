@@ -10,9 +10,9 @@ use Rattle.std.proofs.lemmas.Slice.Zip.{AllZip-long}
 use Rattle.pmp_core.specs.declared.decision.Decision.{Decision}
 use Rattle.pmp_text.specs.declared.flaw.Flaw.{Flaw}
 use Rattle.pmp_text.specs.declared.trace.TraceRow.{TraceRow}
-use Rattle.pmp_text.specs.declared.trace.RowFault.{RowFault}
+use Rattle.pmp_text.specs.declared.fault.Fault.{Fault}
 use Rattle.pmp_text.specs.declared.trace.row_fields.RowFields.{RowFields}
-use Rattle.pmp_text.specs.declared.trace.rows.Place.{Place}
+use Rattle.pmp_text.specs.declared.trace.rows.Position.{Position}
 use Rattle.pmp_text.specs.Contents.{ScriptContents}
 use Rattle.pmp_text.specs.Flaws.{at_row}
 use Rattle.pmp_text.specs.LongTraces.{HasTooManyRows, Records, first_fault_at, has_begun, piece_fault, place_behind}
@@ -27,12 +27,13 @@ use Rattle.pmp_audit.specs.LongPieces.{IsReported}
 use Rattle.pmp_audit.specs.Report.{refused_count}
 use Rattle.pmp_audit.proofs.LongReports.{report_goes_on}
 use Rattle.pmp_audit.proofs.Reports.{Decides}
+use Rattle.pmp_text.specs.declared.fault.Source.TheVariants as source
 
 -- before the first piece
 abbrev pub start : (first : ℕ) → Standing
 start first = record { place = beginning first; faults = 0 }
 
-neither : (own later : Option RowFault) → option_or own later ≡ None → (own ≡ None) × (later ≡ None)
+neither : (own later : Option Fault) → option_or own later ≡ None → (own ≡ None) × (later ≡ None)
 neither None later e = (refl, e)
 neither (Some fault) later e = absurd cc
 
@@ -62,11 +63,11 @@ module _ (moments : KnownMoments) where
           → ((last : Option ℕ) (next number : ℕ) → first_row_fault moments last next more ≡ None → AreSaid number more)
           → AreSaid number (row ∷ more)
       by (Err flaw) is later =
-          let own : Some (at_row next flaw) ≡ None = (neither (Some (at_row next flaw))
+          let own : Some (at_row source.Trace next flaw) ≡ None = (neither (Some (at_row source.Trace next flaw))
           (first_row_fault moments None (next + 1) more) (rw is at fine)).0 in
           absurd cc
       by (Ok fields) is later =
-          let rest = (neither (option_map (at_row next) (row_fault moments.publications last (row_in moments row)))
+          let rest = (neither (option_map (at_row source.Trace next) (row_fault moments.publications last (row_in moments row)))
           (first_row_fault moments (after_of (row_of_record moments row)) (next + 1) more) fine).1 in
           let said = later (after_of (row_of_record moments row)) (next + 1) (number + 1) rest in
           let many = said.many in
@@ -107,14 +108,14 @@ module _ {script : ScriptContents} {records : Records} {old new : Standing} {tex
       let said = (all_rows_say moments old.place.begun records old.place.last old.place.next says.fine).many in
       let same : length says.rows ≡ length (filter_map (row_of_record moments) (row_records old.place.begun records)) =
       sym (length-map says.rows row_fields) ∙ ap (λ (l : List RowFields). length l) says.said in
-      let next = ap (λ (p : Place). p.next) reported.place in
+      let next = ap (λ (p : Position). p.next) reported.place in
       omega arith
 
   -- the first bare row of those that are reported
   pub bare_rows_behind : new.place.bare ≡ option_or old.place.bare (first_bare old.place.next says.rows)
   bare_rows_behind =
       let said = all_rows_say moments old.place.begun records old.place.last old.place.next says.fine in
-      ap (λ (p : Place). p.bare) reported.place
+      ap (λ (p : Position). p.bare) reported.place
       ∙ ap (option_or old.place.bare) (sym (bare_rows old.place.next says.rows
       ∙ ap (position_from bare_field old.place.next) says.said ∙ said.bare))
 
@@ -133,14 +134,14 @@ module _ {script : ScriptContents} {records : Records} {old new : Standing} {tex
   pub fault_behind : (more : Records) → piece_fault moments old.place (records ++ more)
       ≡ piece_fault moments new.place more
   fault_behind more = in_turn moments old.place.last old.place.next old.place.begun records more
-      ∙ ap (λ (x : Option RowFault). option_or x
+      ∙ ap (λ (x : Option Fault). option_or x
       (piece_fault moments (place_behind moments old.place records) more)) says.fine
-      ∙ ap (λ (p : Place). piece_fault moments p more) (sym reported.place)
+      ∙ ap (λ (p : Position). piece_fault moments p more) (sym reported.place)
 
   pub too_many_in_all : (more : Records) → HasTooManyRows moments new.place more
       → HasTooManyRows moments old.place (records ++ more)
   too_many_in_all more many = too_many_behind moments old.place records more says.fine
-      (subst (λ (p : Place). HasTooManyRows moments p more) reported.place many)
+      (subst (λ (p : Position). HasTooManyRows moments p more) reported.place many)
 
   module _ {more : Records} {mid last : Standing} {later : List ℕ} (behind : IsReported script more mid last later)
     where
@@ -152,10 +153,10 @@ module _ {script : ScriptContents} {records : Records} {old new : Standing} {tex
       joined meets both place faults =
           let there = behind.report in
           let begun : mid.place.begun ≡ has_begun old.place.begun records =
-          ap (λ (p : Place). p.begun) meets ∙ ap (λ (p : Place). p.begun) reported.place in
+          ap (λ (p : Position). p.begun) meets ∙ ap (λ (p : Position). p.begun) reported.place in
           record {
             report = record {
-              fine = fault_behind more ∙ ap (λ (p : Place). piece_fault moments p more) (sym meets) ∙ there.fine;
+              fine = fault_behind more ∙ ap (λ (p : Position). piece_fault moments p more) (sym meets) ∙ there.fine;
               rows = says.rows ++ there.rows;
               decisions = says.decisions ++ there.decisions;
               said = map-append row_fields says.rows there.rows
@@ -168,7 +169,7 @@ module _ {script : ScriptContents} {records : Records} {old new : Standing} {tex
               report = ap (λ (l : List ℕ). l ++ later) says.report
                   ∙ ap (λ (l : List ℕ). report_text_from old.place.next says.rows says.decisions ++ l)
                   (there.report ∙ ap (λ (n : ℕ). report_text_from n there.rows there.decisions)
-                  (ap (λ (p : Place). p.next) meets ∙ numbered))
+                  (ap (λ (p : Position). p.next) meets ∙ numbered))
                   ∙ sym (report_goes_on says.rows there.rows says.decisions there.decisions old.place.next one_each);
             };
             place = place;
@@ -184,5 +185,5 @@ module _ {script : ScriptContents} {records : Records} {old new : Standing} {tex
   pub one_after : {more : Records} {last : Standing} {later : List ℕ} → IsReported script more new last later
       → IsReported script (records ++ more) old last (text ++ later)
   one_after {more = more} {last = last} behind = joined behind refl last
-      (behind.place ∙ ap (λ (p : Place). place_behind moments p more) reported.place
+      (behind.place ∙ ap (λ (p : Position). place_behind moments p more) reported.place
       ∙ sym (places_in_turn moments old.place records more)) (omega arith)

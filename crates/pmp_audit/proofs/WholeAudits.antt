@@ -3,9 +3,9 @@ use Rattle.std.proofs.Common.{◌≡◌, ℕ, ◌-◌, ◌<◌, ◌≤◌, true,
 use Rattle.std.proofs.Common.{refl, sym, ap, ◌∙◌, inl, inr}
 use Rattle.std.proofs.KnownBytes.{Keeps-refl}
 use Rattle.pmp_text.specs.declared.refusal.Refusal.TheVariants.{BadHeader, TooLong}
-use Rattle.pmp_text.specs.declared.trace.RowFault.{RowFault}
+use Rattle.pmp_text.specs.declared.fault.Fault.{Fault}
 use Rattle.pmp_text.specs.declared.trace.reader.TheConstants.{MAX_TRACE}
-use Rattle.pmp_text.specs.declared.trace.rows.Place.{Place}
+use Rattle.pmp_text.specs.declared.trace.rows.Position.{Position}
 use Rattle.pmp_text.specs.Contents.{ScriptContents}
 use Rattle.pmp_text.specs.Flaws.{as_whole, at_row}
 use Rattle.pmp_text.specs.LongTraces.{report_text_from}
@@ -16,8 +16,6 @@ use Rattle.pmp_text.specs.Traces.{is_header, rows_meaning, trace_meaning}
 use Rattle.pmp_text.proofs.Rows.{long_text, trace_is}
 use Rattle.pmp_text.proofs.WholeTraces.{few_rows, found, meaning_is, without_header}
 use Rattle.pmp_text.specs.Moments.{moments_in}
-use Rattle.pmp_audit.specs.declared.fault.ReportFault.{ReportFault}
-use Rattle.pmp_audit.specs.declared.fault.ReportFault.TheVariants.{Trace, Memory}
 use Rattle.pmp_audit.specs.declared.standing.Standing.{Standing}
 use Rattle.pmp_audit.specs.declared.trace_audit.AuditSummary.{AuditSummary}
 use Rattle.pmp_audit.specs.Answers.{IsRefused}
@@ -26,6 +24,7 @@ use Rattle.pmp_audit.specs.LongPieces.{IsReported, PieceFails}
 use Rattle.pmp_audit.specs.TraceAudit.{AuditRefuses, AuditSays}
 use Rattle.pmp_audit.proofs.LongStops.{says_all}
 use Rattle.pmp_audit.proofs.PieceTexts.{start}
+use Rattle.pmp_text.specs.declared.fault.Source.TheVariants as source
 
 says_short : (script trace : List ℕ) (summary : AuditSummary) (text : List ℕ) → length trace ≤ MAX_TRACE
     → LongAuditSays script 1 trace summary text → AuditSays script trace summary text
@@ -44,28 +43,26 @@ says_short script trace summary text short says = record {
 }
 
 module _ (script trace : List ℕ) (contents : ScriptContents) (means : script_meaning script ≡ Ok contents) where
-  abbrev Refused : Option (List ℕ) → Option (List ℕ) → ReportFault → Type 0
+  abbrev Refused : Option (List ℕ) → Option (List ℕ) → Fault → Type 0
   Refused before after = IsRefused (AuditSays script trace) before after (AuditRefuses script trace)
 
-  refuses : (fault : RowFault) → trace_meaning (moments_in contents) trace ≡ Err fault → (out : Option (List ℕ))
-      → Refused out out (Trace fault)
-  refuses fault e out = (record { contents = contents; script_means = means; trace_means = inl e }, Keeps-refl out)
+  refuses : (fault : Fault) → trace_meaning (moments_in contents) trace ≡ Err fault → (out : Option (List ℕ))
+      → Refused out out fault
+  refuses fault e out =
+      inr (inr (inr record { contents = contents; script_means = means; trace_means = e }), Keeps-refl out)
 
   pub too_long : MAX_TRACE < length trace → (out : Option (List ℕ))
-      → Refused out out (Trace (at_row 0 (as_whole TooLong)))
-  too_long long out = refuses (at_row 0 (as_whole TooLong)) (trace_is (moments_in contents) trace
-      ∙ long_text is_header (rows_meaning (moments_in contents)) trace long) out
+      → Refused out out (at_row source.Trace 0 (as_whole TooLong))
+  too_long long out = refuses (at_row source.Trace 0 (as_whole TooLong)) (trace_is (moments_in contents) trace
+      ∙ long_text source.Trace is_header (rows_meaning (moments_in contents)) trace long) out
 
   module _ (short : length trace ≤ MAX_TRACE) where
-    pub fails : (fault : ReportFault) → PieceFails contents (records_of trace) (start 1) fault
+    pub fails : (fault : Fault) → PieceFails contents (records_of trace) (start 1) fault
         → (out : Option (List ℕ)) → Refused out out fault
-    fails (Trace fault) (inl e) out = refuses fault (found (moments_in contents) trace short fault e) out
-    fails (Trace fault) (inr (inl input)) out =
-        (record { contents = contents; script_means = means; trace_means = inr input }, Keeps-refl out)
-    fails (Trace fault) (inr (inr (long, many))) out =
+    fails fault (inl memory) out = inr (inl memory, Keeps-refl out)
+    fails fault (inr (inl e)) out = refuses fault (found (moments_in contents) trace short fault e) out
+    fails fault (inr (inr (long, many))) out =
         absurd (few_rows (moments_in contents) trace short many.front many.behind many.are many.many)
-    fails Memory why out = Keeps-refl out
-    fails fault why out = absurd why
 
     module _ (behind : Standing) (text : List ℕ) (whole : IsReported contents (records_of trace) (start 1) behind text)
       where
@@ -76,6 +73,6 @@ module _ (script trace : List ℕ) (contents : ScriptContents) (means : script_m
             (says_all script means 0 whole None None tt trace refl summary begun is)
 
         pub no_header : behind.place.begun ≡ false → (out : Option (List ℕ))
-            → Refused out out (Trace (at_row 0 (as_whole BadHeader)))
-        no_header begun out = refuses (at_row 0 (as_whole BadHeader)) (without_header (moments_in contents) trace
-            short (sym (ap (λ (p : Place). p.begun) whole.place) ∙ begun)) out
+            → Refused out out (at_row source.Trace 0 (as_whole BadHeader))
+        no_header begun out = refuses (at_row source.Trace 0 (as_whole BadHeader)) (without_header (moments_in contents) trace
+            short (sym (ap (λ (p : Position). p.begun) whole.place) ∙ begun)) out

@@ -1,15 +1,14 @@
 -- What a call returns that makes rows or a text from its inputs, and adds, appends or writes them.
-use Rattle.std.specs.Prelude.{◌≡◌, ℕ, List, ◌++◌, Option, ⊤}
+use Rattle.std.specs.Prelude.{◌≡◌, ◌⊎◌, ℕ, List, ◌++◌, Option}
 use Rattle.std.specs.Io.KnownBytes.{Appends, Keeps}
 use Rattle.pmp_text.specs.Bytes.{AppendsBeginning}
 use Rattle.pmp_text.specs.Cells.{RowValue, csv_text}
-use Rattle.pmp_audit.specs.declared.fault.ReportFault.{ReportFault}
-use Rattle.pmp_audit.specs.declared.fault.ReportFault.TheVariants.{Memory, Output}
+use Rattle.pmp_text.specs.declared.fault.Fault.{Fault}
+use Rattle.pmp_text.specs.Outcomes.{no_memory, no_output}
 
 -- memory ran out, or the call itself refuses
-abbrev pub Declines : (Refuses : ReportFault → Type 0) → ReportFault → Type 0
-Declines Refuses Memory = ⊤
-Declines Refuses fault = Refuses fault
+abbrev pub Declines : (Refuses : Fault → Type 0) → Fault → Type 0
+Declines Refuses fault = (fault ≡ no_memory) ⊎ Refuses fault
 
 -- Says answer text: this text belongs to this answer, and was appended
 pub record IsAppended {A : Type 0} (Says : A → List ℕ → Type 0) (before after : List ℕ) (answer : A) : Type 0 where
@@ -43,8 +42,7 @@ module _ {A : Type 0} (Says : A → List ℕ → Type 0) (before after : Option 
     pub says : Says answer text
     pub front : AppendsBeginning before after text
 
-  -- memory ran out, the output failed, or the call itself refuses; bytes were written only if the output failed
-  abbrev pub IsRefused : (Refuses : ReportFault → Type 0) → ReportFault → Type 0
-  IsRefused Refuses Memory = Keeps before after
-  IsRefused Refuses Output = IsCutShort
-  IsRefused Refuses fault = Refuses fault × Keeps before after
+  -- the output failed, memory ran out, or the call itself refuses; bytes were written only if the output failed
+  abbrev pub IsRefused : (Refuses : Fault → Type 0) → Fault → Type 0
+  IsRefused Refuses fault =
+      ((fault ≡ no_output) × IsCutShort) ⊎ (Declines Refuses fault × Keeps before after)

@@ -1,13 +1,14 @@
 -- Output about the register file after the publications asked for, and when it is refused.
-use Rattle.std.specs.Prelude.{◌≡◌, ℕ, ◌<◌, ◌≤◌, List, length, Option, Some, None, Ok, Err}
+use Rattle.std.specs.Prelude.{◌≡◌, ◌⊎◌, ℕ, ◌<◌, ◌≤◌, List, length, Option, Some, None, Ok, Err}
 use Rattle.pmp_text.specs.declared.moments.When.{When}
 use Rattle.pmp_text.specs.declared.moments.When.TheVariants.{Number, Labelled}
 use Rattle.pmp_text.specs.declared.refusal.Refusal.{Refusal}
+use Rattle.pmp_text.specs.declared.refusal.Refusal.TheVariants.{BadAfter, NoMoment}
+use Rattle.pmp_text.specs.Flaws.{as_whole, at_line}
 use Rattle.pmp_text.specs.Contents.{ScriptContents}
 use Rattle.pmp_text.specs.Moments.{KnownMoments, when_place}
 use Rattle.pmp_text.specs.Scripts.{script_meaning}
-use Rattle.pmp_audit.specs.declared.fault.ReportFault.{ReportFault}
-use Rattle.pmp_audit.specs.declared.fault.ReportFault.TheVariants.{Script, BadAfter, NoMoment}
+use Rattle.pmp_text.specs.declared.fault.Fault.{Fault}
 use Rattle.pmp_audit.specs.Moments.{AreMoments}
 
 -- `done` publications are asked for: by default, all
@@ -35,20 +36,21 @@ pub record SaysOfScript {X : Type 0} (IsOf : ScriptContents → (done : ℕ) →
   pub said_is : IsOf contents done said
 
 -- why the script lacks what is asked for: too few publications, or no such moment
-abbrev pub IsLacking : Option When → ScriptContents → ReportFault → Type 0
-IsLacking after script BadAfter = (done : ℕ) × IsAsked after script done × (length script.batches < done)
-IsLacking after script NoMoment = HasNone after script
-IsLacking after script _ = ⊥
+abbrev pub IsLacking : Option When → ScriptContents → Fault → Type 0
+IsLacking after script fault =
+    ((fault ≡ at_line 0 (as_whole BadAfter)) × ((done : ℕ) × IsAsked after script done × (length script.batches < done)))
+    ⊎ ((fault ≡ at_line 0 (as_whole NoMoment)) × HasNone after script)
 
 -- the script has these contents, and lacks what is asked for
-pub record AsksTooMuch (script : List ℕ) (after : Option When) (fault : ReportFault) : Type 0 where
+pub record AsksTooMuch (script : List ℕ) (after : Option When) (fault : Fault) : Type 0 where
   pub contents : ScriptContents
   pub script_means : script_meaning script ≡ Ok contents
   pub lacking : IsLacking after contents fault
 
--- the script's own fault, or it lacks what is asked for
-abbrev pub FileRefuses : (script : List ℕ) → (after : Option When) → ReportFault → Type 0
-FileRefuses script after (Script fault) = script_meaning script ≡ Err fault
-FileRefuses script after BadAfter = AsksTooMuch script after BadAfter
-FileRefuses script after NoMoment = AsksTooMuch script after NoMoment
-FileRefuses script after _ = ⊥
+-- the script's own fault
+abbrev pub ScriptRefuses : (script : List ℕ) → Fault → Type 0
+ScriptRefuses script fault = script_meaning script ≡ Err fault
+
+-- or it lacks what is asked for
+abbrev pub FileRefuses : (script : List ℕ) → (after : Option When) → Fault → Type 0
+FileRefuses script after fault = ScriptRefuses script fault ⊎ AsksTooMuch script after fault

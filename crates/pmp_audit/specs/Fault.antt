@@ -1,47 +1,22 @@
--- How faults of lower layers are returned.
+-- How the refusals of a shared unit are returned.
+use Rattle.std.specs.Prelude.{◌≡◌, ◌⊎◌, ℕ}
 use Rattle.pmp_share.specs.declared.fault.ShareFault.{ShareFault}
 use Rattle.pmp_share.specs.declared.fault.ShareFault.TheVariants as share
-use Rattle.pmp_text.specs.declared.script.LineFault.{LineFault}
-use Rattle.pmp_text.specs.declared.refusal.Refusal.{Refusal}
-use Rattle.pmp_text.specs.declared.refusal.Refusal.TheVariants as kind
-use Rattle.pmp_text.specs.declared.trace.RowFault.{RowFault}
-use Rattle.pmp_audit.specs.declared.fault.ReportFault.{ReportFault}
-use Rattle.pmp_audit.specs.declared.fault.ReportFault.TheVariants.{Script, ScriptOf, Trace, Policy, Share}
-use Rattle.pmp_audit.specs.declared.fault.ReportFault.TheVariants.{BadAfter, BadAfterOf, NoMoment, NoMomentOf, Moved}
-use Rattle.pmp_audit.specs.declared.fault.ReportFault.TheVariants.{Memory, Output}
+use Rattle.pmp_text.specs.declared.fault.Fault.{Fault}
+use Rattle.pmp_text.specs.declared.fault.Place.TheVariants.{Events}
+use Rattle.pmp_text.specs.declared.refusal.Refusal.TheVariants as refusal
+use Rattle.pmp_text.specs.FaultPlaces.{somewhere}
+use Rattle.pmp_text.specs.Outcomes.{no_memory}
 
--- out of memory is the same fault in every layer
-abbrev pub unless_memory : Refusal → ReportFault → ReportFault
-unless_memory kind.Memory fault = Memory
-unless_memory _ fault = fault
+abbrev pub fault_of_share : ShareFault → Fault
+fault_of_share share.NoPlace = somewhere refusal.NoPlace
+fault_of_share share.Full = somewhere refusal.Full
+fault_of_share share.Memory = no_memory
 
-abbrev pub fault_of_script : LineFault → ReportFault
-fault_of_script fault = unless_memory fault.kind (Script fault)
+-- a worker saw this number of events, more than it was told of
+abbrev pub moved_on : (seen : ℕ) → Fault
+moved_on seen = record { refusal = refusal.Moved; place = Events seen }
 
-abbrev pub fault_of_trace : RowFault → ReportFault
-fault_of_trace fault = unless_memory fault.kind (Trace fault)
-
--- a policy has the same faults as a trace
-abbrev pub fault_of_policy : RowFault → ReportFault
-fault_of_policy fault = unless_memory fault.kind (Policy fault)
-
-abbrev pub fault_of_share : ShareFault → ReportFault
-fault_of_share share.Memory = Memory
-fault_of_share fault = Share fault
-
--- the number and name of a fault
-abbrev pub refusal_of : ReportFault → Refusal
-refusal_of (Script fault) = fault.kind
-refusal_of (ScriptOf side fault) = fault.kind
-refusal_of (Trace fault) = fault.kind
-refusal_of (Policy fault) = fault.kind
-refusal_of (Share share.NoPlace) = kind.NoPlace
-refusal_of (Share share.Full) = kind.Full
-refusal_of (Share share.Memory) = kind.Memory
-refusal_of (Moved moved) = kind.Moved
-refusal_of BadAfter = kind.BadAfter
-refusal_of (BadAfterOf side) = kind.BadAfter
-refusal_of NoMoment = kind.NoMoment
-refusal_of (NoMomentOf side) = kind.NoMoment
-refusal_of Memory = kind.Memory
-refusal_of Output = kind.Output
+-- the unit has no place, or a worker saw more events, of which this holds
+abbrev pub Stopped : (Seen : ℕ → Type 0) → Fault → Type 0
+Stopped Seen fault = (fault ≡ somewhere refusal.NoPlace) ⊎ ((seen : ℕ) × (fault ≡ moved_on seen) × Seen seen)

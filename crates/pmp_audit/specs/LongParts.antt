@@ -3,7 +3,7 @@ use Rattle.std.specs.Prelude.{◌≡◌, ◌+◌, List, ◌++◌, Result, Ok, Er
 use Rattle.std.specs.List.{flat_map}
 use Rattle.std.specs.Option.{option_or}
 use Rattle.std.specs.declared.alloc.Global.{Global}
-use Rattle.pmp_audit.specs.declared.fault.ReportFault.{ReportFault}
+use Rattle.pmp_text.specs.declared.fault.Fault.{Fault}
 use Rattle.pmp_audit.specs.declared.piece.PieceReport.{PieceReport}
 use Rattle.pmp_audit.specs.declared.standing.Standing.{Standing}
 
@@ -20,8 +20,8 @@ pub record IsBoth (front : PieceReport) (middle : Standing) (back both : PieceRe
   pub faults : both.behind.faults ≡ front.behind.faults + back.behind.faults
 
 -- two parts were reported, and `both` joins them
-abbrev pub AreJoined : (front : Result PieceReport ReportFault) → (middle : Standing)
-    → (back : Result PieceReport ReportFault) → PieceReport → Type 0
+abbrev pub AreJoined : (front : Result PieceReport Fault) → (middle : Standing)
+    → (back : Result PieceReport Fault) → PieceReport → Type 0
 AreJoined (Ok front) middle (Ok back) both = IsBoth front middle back both
 AreJoined (Ok front) middle (Err fault) both = ⊥
 AreJoined (Err fault) middle back both = ⊥

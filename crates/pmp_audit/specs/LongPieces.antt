@@ -1,19 +1,15 @@
 -- A piece of a long audit: what is written for it, and why it fails.
-use Rattle.std.specs.Prelude.{◌≡◌, ◌⊎◌, ℕ, ◌+◌, List, Some, ⊤}
-use Rattle.pmp_text.specs.declared.refusal.Refusal.{Refusal}
-use Rattle.pmp_text.specs.Flaws.{as_whole, at_row}
-use Rattle.pmp_audit.specs.Fault.{fault_of_trace}
+use Rattle.std.specs.Prelude.{◌≡◌, ◌⊎◌, ℕ, ◌+◌, List, Some}
 use Rattle.pmp_text.specs.Contents.{ScriptContents}
 use Rattle.pmp_text.specs.Moments.{moments_in}
 use Rattle.pmp_text.specs.LongTraces.{HasTooManyRows, Records, piece_fault, place_behind, too_long_for_rows}
-use Rattle.pmp_text.specs.Outcomes.{no_input_for_rows}
-use Rattle.pmp_audit.specs.declared.fault.ReportFault.{ReportFault}
-use Rattle.pmp_audit.specs.declared.fault.ReportFault.TheVariants.{Trace, Memory}
+use Rattle.pmp_text.specs.declared.fault.Fault.{Fault}
 use Rattle.pmp_audit.specs.declared.piece.PieceReport.{PieceReport}
 use Rattle.pmp_audit.specs.declared.standing.Standing.{Standing}
 use Rattle.pmp_audit.specs.LongAudit.{IsReportAt}
 use Rattle.pmp_audit.specs.LongParts.{items_of}
 use Rattle.pmp_audit.specs.Report.{refused_count}
+use Rattle.pmp_text.specs.Outcomes.{no_memory}
 
 -- the text reports the rows of records at this position, and `new` is the position after them
 pub record IsReported (script : ScriptContents) (records : Records) (old new : Standing) (text : List ℕ) : Type 0 where
@@ -26,13 +22,7 @@ abbrev pub IsPieceReported : ScriptContents → Records → (old : Standing) →
 IsPieceReported script records old report = IsReported script records old report.behind (items_of report.texts.items)
 
 -- why records at this position have no report
-abbrev pub PieceFails : (script : ScriptContents) (records : Records) (old : Standing) → ReportFault → Type 0
-PieceFails script records old (Trace fault) = (piece_fault (moments_in script) old.place records ≡ Some fault)
-    ⊎ (fault ≡ no_input_for_rows)
+abbrev pub PieceFails : (script : ScriptContents) (records : Records) (old : Standing) → Fault → Type 0
+PieceFails script records old fault = (fault ≡ no_memory)
+    ⊎ (piece_fault (moments_in script) old.place records ≡ Some fault)
     ⊎ ((fault ≡ too_long_for_rows) × HasTooManyRows (moments_in script) old.place records)
-PieceFails script records old Memory = ⊤
-PieceFails script records old _ = ⊥
-
--- an input that gives no piece is a fault of the trace
-abbrev pub fault_of_cut : Refusal → ReportFault
-fault_of_cut refusal = fault_of_trace (at_row 0 (as_whole refusal))

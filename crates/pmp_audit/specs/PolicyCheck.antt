@@ -19,21 +19,20 @@ use Rattle.pmp_text.specs.Moments.{KnownMoments}
 use Rattle.pmp_text.specs.declared.policy.Demand.{Demand}
 use Rattle.pmp_text.specs.declared.policy.Demand.TheVariants.{Never, Always, Held}
 use Rattle.pmp_text.specs.declared.policy.PolicyRow.{PolicyRow}
-use Rattle.pmp_text.specs.declared.trace.RowFault.{RowFault}
+use Rattle.pmp_text.specs.declared.fault.Fault.{Fault}
 use Rattle.pmp_text.specs.Cells.{RowValue}
 use Rattle.pmp_text.specs.Contents.{ScriptContents}
-use Rattle.pmp_text.specs.Outcomes.{no_input_for_rows}
 use Rattle.pmp_text.specs.declared.policy.row_fields.PolicyFields.{PolicyFields}
 use Rattle.pmp_text.specs.Policies.{has_kind, has_mode, policy_fields, policy_meaning, proper_fields_fault}
 use Rattle.pmp_text.specs.Reports.{file_behind}
 use Rattle.pmp_text.specs.Scripts.{script_meaning}
 use Rattle.pmp_text.specs.Flaws.{at_row}
 use Rattle.pmp_text.specs.Verdicts.{verdict_row}
-use Rattle.pmp_audit.specs.declared.fault.ReportFault.{ReportFault}
-use Rattle.pmp_audit.specs.declared.fault.ReportFault.TheVariants.{Policy, Script}
 use Rattle.pmp_audit.specs.declared.policy_check.steps.Pace.{Pace}
 use Rattle.pmp_audit.specs.declared.policy_check.steps.Pace.TheVariants.{Publications, Events}
 use Rattle.pmp_audit.specs.Moments.{AreMoments}
+use Rattle.pmp_audit.specs.AskedFile.{ScriptRefuses}
+use Rattle.pmp_text.specs.declared.fault.Source.TheVariants as source
 
 -- ---- the states asked about
 
@@ -151,25 +150,21 @@ pub record VerdictSays (pace : Pace) (script : List ℕ) (number : ℕ) (fields 
   pub answer_is : answer ≡ verdict_row number verdict None ∷ []
 
 -- the script's own fault, or else that of the row with this number
-abbrev pub VerdictRefuses : (script : List ℕ) → (number : ℕ) → PolicyFields → ReportFault → Type 0
-VerdictRefuses script number fields (Script fault) = script_meaning script ≡ Err fault
-VerdictRefuses script number fields (Policy fault) =
-    (contents : ScriptContents) × (script_meaning script ≡ Ok contents)
-    × (option_map (at_row number) (proper_fields_fault (length contents.batches) fields) ≡ Some fault)
-VerdictRefuses script number fields _ = ⊥
+abbrev pub VerdictRefuses : (script : List ℕ) → (number : ℕ) → PolicyFields → Fault → Type 0
+VerdictRefuses script number fields fault = ScriptRefuses script fault
+    ⊎ ((contents : ScriptContents) × (script_meaning script ≡ Ok contents)
+    × (option_map (at_row source.Policy number) (proper_fields_fault (length contents.batches) fields) ≡ Some fault))
 
 -- ---- a faulty policy
 
--- the script has no fault, and the policy has this one, or its input failed
-pub record IsFaultyPolicy (script policy : List ℕ) (fault : RowFault) : Type 0 where
+-- the script has no fault, and the policy has this one
+pub record IsFaultyPolicy (script policy : List ℕ) (fault : Fault) : Type 0 where
   pub contents : ScriptContents
   pub script_means : script_meaning script ≡ Ok contents
   pub moments : KnownMoments
   pub moments_are : AreMoments contents moments
-  pub policy_means : (policy_meaning moments policy ≡ Err fault) ⊎ (fault ≡ no_input_for_rows)
+  pub policy_means : policy_meaning moments policy ≡ Err fault
 
 -- the script's own fault, or else the policy's
-abbrev pub PolicyRefuses : (script policy : List ℕ) → ReportFault → Type 0
-PolicyRefuses script policy (Script fault) = script_meaning script ≡ Err fault
-PolicyRefuses script policy (Policy fault) = IsFaultyPolicy script policy fault
-PolicyRefuses script policy _ = ⊥
+abbrev pub PolicyRefuses : (script policy : List ℕ) → Fault → Type 0
+PolicyRefuses script policy fault = ScriptRefuses script fault ⊎ IsFaultyPolicy script policy fault

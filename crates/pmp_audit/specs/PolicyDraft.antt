@@ -17,8 +17,6 @@ use Rattle.pmp_text.specs.Reports.{fields_after}
 use Rattle.pmp_text.specs.Scripts.{script_meaning}
 use Rattle.pmp_lint.specs.EndState.{end_of}
 use Rattle.std.specs.Fmt.{digits, format_spec, padded_integral}
-use Rattle.pmp_audit.specs.declared.fault.ReportFault.{ReportFault}
-use Rattle.pmp_audit.specs.declared.fault.ReportFault.TheVariants.{Script}
 use Rattle.pmp_audit.specs.declared.policy_check.steps.Pace.{Pace}
 use Rattle.pmp_audit.specs.ClosedRanges.{AreClosedRanges}
 use Rattle.pmp_audit.specs.Moments.{AreMoments}
@@ -108,8 +106,3 @@ pub record IsDraftOf (script text : List ℕ) : Type 0 where
 
 abbrev pub DraftSays : (script : List ℕ) → Unit {0} → (text : List ℕ) → Type 0
 DraftSays script _ text = IsDraftOf script text
-
--- the script's own fault
-abbrev pub DraftRefuses : (script : List ℕ) → ReportFault → Type 0
-DraftRefuses script (Script fault) = script_meaning script ≡ Err fault
-DraftRefuses script _ = ⊥

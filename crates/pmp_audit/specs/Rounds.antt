@@ -13,7 +13,7 @@ use Rattle.pmp_text.specs.Contents.{ScriptContents}
 use Rattle.pmp_text.specs.Reports.{file_of_script}
 use Rattle.pmp_text.specs.TraceFaults.{IsInOrder, afters}
 use Rattle.pmp_text.specs.Traces.{row_fields}
-use Rattle.pmp_audit.specs.declared.fault.ReportFault.{ReportFault}
+use Rattle.pmp_text.specs.declared.fault.Fault.{Fault}
 use Rattle.pmp_audit.specs.declared.shared_audit.job.Job.{Job}
 use Rattle.pmp_audit.specs.declared.shared_audit.job.Done.{Done}
 use Rattle.pmp_audit.specs.Working.{IsDealt, IsDone, StopsRound}
@@ -51,16 +51,16 @@ pub record AreJobs (publisher : PublisherToken) (count : ℕ) (jobs : List Job) 
   pub each : (worker : ℕ) (job : Job) → slice_get jobs worker ≡ Some job → IsJob publisher worker job
 
 -- a worker's result for its job: its rows of the round are decided, or something stopped it
-pub record IsResult (workers first : ℕ) (rows : List TraceRow) (job : Job) (result : Result Done ReportFault) : Type 0 where
+pub record IsResult (workers first : ℕ) (rows : List TraceRow) (job : Job) (result : Result Done Fault) : Type 0 where
   pub done : IfOk result (IsDone job.checker.unit (file_from job.checker.unit.base job.notice.list) job.worker workers
       first rows)
   pub refused : IfErr result (StopsRound job.notice.list)
 
 -- each job has such a result, at the job's place
-pub record AreResults (workers first : ℕ) (rows : List TraceRow) (jobs : List Job) (results : List (Result Done ReportFault))
+pub record AreResults (workers first : ℕ) (rows : List TraceRow) (jobs : List Job) (results : List (Result Done Fault))
     : Type 0 where
   pub many : length results ≡ length jobs
-  pub each : (i : ℕ) (d : Result Done ReportFault) → i < length jobs → (job : Job)
+  pub each : (i : ℕ) (d : Result Done Fault) → i < length jobs → (job : Job)
       × ((e : Job) → slice_index_or jobs i e ≡ job) × IsResult workers first rows job (slice_index_or results i d)
 
 -- each worker returns its share of these decisions; the first decision's row is numbered `first`

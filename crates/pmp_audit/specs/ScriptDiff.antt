@@ -1,5 +1,5 @@
 -- Output about two scripts' register files, and when it is refused.
-use Rattle.std.specs.Prelude.{◌≡◌, ℕ, ◌+◌, ◌≤◌, Bool, true, false, List, [], ◌++◌, length, Option, Ok}
+use Rattle.std.specs.Prelude.{◌⊎◌, ◌≡◌, ℕ, ◌+◌, ◌≤◌, Bool, true, false, List, [], ◌++◌, length, Option, Ok}
 use Rattle.pmp_core.specs.RegisterFile.{RegisterFile}
 use Rattle.pmp_map.specs.declared.compared.Aspect.{Aspect}
 use Rattle.pmp_map.specs.declared.compared.Aspect.TheVariants.{Rights, Locks}
@@ -12,11 +12,11 @@ use Rattle.pmp_text.specs.Cells.{RowValue}
 use Rattle.pmp_text.specs.Contents.{ScriptContents}
 use Rattle.pmp_text.specs.Reports.{file_of_script}
 use Rattle.pmp_text.specs.Scripts.{script_meaning}
-use Rattle.pmp_audit.specs.declared.fault.ReportFault.{ReportFault}
-use Rattle.pmp_audit.specs.declared.fault.ReportFault.TheVariants.{Script, BadAfter, NoMoment, ScriptOf, BadAfterOf, NoMomentOf}
-use Rattle.pmp_audit.specs.declared.fault.Side.TheVariants.{Old, New}
+use Rattle.pmp_text.specs.declared.fault.Fault.{Fault}
 use Rattle.pmp_audit.specs.declared.script_diff.AskedChanges.{AskedChanges}
 use Rattle.pmp_audit.specs.AskedFile.{FileRefuses, IsAsked}
+use Rattle.pmp_text.specs.declared.fault.Source.TheVariants.{New, Old}
+use Rattle.pmp_audit.specs.Sides.{OnSide}
 
 -- the script has these contents, and the publications asked for, which give the file
 pub record GivesFile (script : List ℕ) (after : Option When) (file : RegisterFile) : Type 0 where
@@ -62,19 +62,8 @@ pub record DiffSays (old : List ℕ) (old_after : Option When) (new : List ℕ) 
   pub new_gives : GivesFile new new_after new_file
   pub changes : FilesSay old_file new_file asked count rows
 
--- the new script is refused like any other, if the old one gives a file
-abbrev pub NewRefuses : (old : List ℕ) → (old_after : Option When) → (new : List ℕ) → (new_after : Option When)
-    → ReportFault → Type 0
-NewRefuses old old_after new new_after fault =
-    ((file : RegisterFile) × GivesFile old old_after file) × FileRefuses new new_after fault
-
--- the old script's own fault, or it lacks what is asked for; then the same of the new one
+-- the old script is refused; or it gives a file, and the new one is refused
 abbrev pub DiffRefuses : (old : List ℕ) → (old_after : Option When) → (new : List ℕ) → (new_after : Option When)
-    → ReportFault → Type 0
-DiffRefuses old old_after new new_after (ScriptOf Old fault) = FileRefuses old old_after (Script fault)
-DiffRefuses old old_after new new_after (BadAfterOf Old) = FileRefuses old old_after BadAfter
-DiffRefuses old old_after new new_after (NoMomentOf Old) = FileRefuses old old_after NoMoment
-DiffRefuses old old_after new new_after (ScriptOf New fault) = NewRefuses old old_after new new_after (Script fault)
-DiffRefuses old old_after new new_after (BadAfterOf New) = NewRefuses old old_after new new_after BadAfter
-DiffRefuses old old_after new new_after (NoMomentOf New) = NewRefuses old old_after new new_after NoMoment
-DiffRefuses old old_after new new_after _ = ⊥
+    → Fault → Type 0
+DiffRefuses old old_after new new_after fault = OnSide Old (FileRefuses old old_after) fault
+    ⊎ (((file : RegisterFile) × GivesFile old old_after file) × OnSide New (FileRefuses new new_after) fault)

@@ -6,8 +6,14 @@ use Rattle.pmp_text.specs.declared.moments.When.TheVariants.{Number}
 use Rattle.pmp_text.specs.declared.script.sized.ScriptFault.{ScriptFault}
 use Rattle.pmp_text.specs.NumberedTraces.{row_of_fault}
 use Rattle.pmp_text.specs.SizedScripts.{line_of, unsized_fault}
-use Rattle.pmp_audit.specs.declared.fault.ReportFault.{ReportFault}
-use Rattle.pmp_audit.specs.declared.fault.ReportFault.TheVariants as report
+use Rattle.pmp_text.specs.declared.fault.Fault.{Fault}
+use Rattle.pmp_text.specs.declared.fault.Place.{Place}
+use Rattle.pmp_text.specs.declared.fault.Place.TheVariants.{Events, In}
+use Rattle.pmp_text.specs.declared.fault.Source.{Source}
+use Rattle.pmp_text.specs.declared.fault.Source.TheVariants as source
+use Rattle.pmp_text.specs.declared.refusal.Refusal.{Refusal}
+use Rattle.pmp_text.specs.declared.refusal.Refusal.TheVariants as refusal
+use Rattle.pmp_share.specs.declared.fault.ShareFault.TheVariants.{Full, NoPlace}
 use Rattle.pmp_audit.specs.declared.sized.AuditFault.{AuditFault}
 use Rattle.pmp_audit.specs.declared.sized.AuditFault.TheVariants.{Script, Trace, Share, Moved, BadAfter, Memory, Output}
 use Rattle.pmp_audit.specs.declared.sized.Summary.{Summary}
@@ -15,20 +21,32 @@ use Rattle.pmp_audit.specs.declared.trace_audit.AuditSummary.{AuditSummary}
 use Rattle.pmp_audit.specs.Answers.{IsRefused, IsWritten}
 use Rattle.pmp_audit.specs.TraceAudit.{AuditSays}
 
--- the fault of one script and one trace, without its word, field or side
-abbrev pub audit_fault : ReportFault → AuditFault
-audit_fault (report.Script fault) = Script (line_of fault)
-audit_fault (report.ScriptOf side fault) = Script (line_of fault)
-audit_fault (report.Trace fault) = Trace (row_of_fault fault)
-audit_fault (report.Policy fault) = Trace (row_of_fault fault)
-audit_fault (report.Share fault) = Share fault
-audit_fault (report.Moved moved) = Moved moved
-audit_fault report.BadAfter = BadAfter
-audit_fault (report.BadAfterOf side) = BadAfter
-audit_fault report.NoMoment = BadAfter
-audit_fault (report.NoMomentOf side) = BadAfter
-audit_fault report.Memory = Memory
-audit_fault report.Output = Output
+-- the fault of a script without its word, or that it lacks what is asked for
+abbrev pub script_answer : Refusal → Fault → AuditFault
+script_answer refusal.BadAfter fault = BadAfter
+script_answer refusal.NoMoment fault = BadAfter
+script_answer _ fault = Script (line_of fault)
+
+-- a fault of an input; that of a trace without its field
+abbrev pub input_answer : Source → Fault → AuditFault
+input_answer source.Trace fault = Trace (row_of_fault fault)
+input_answer source.Policy fault = Trace (row_of_fault fault)
+input_answer _ fault = script_answer fault.refusal fault
+
+-- a fault of no input
+abbrev pub other_answer : Refusal → AuditFault
+other_answer refusal.NoPlace = Share NoPlace
+other_answer refusal.Full = Share Full
+other_answer refusal.Output = Output
+other_answer _ = Memory
+
+abbrev pub answer_at : Place → Fault → AuditFault
+answer_at (In source number part) fault = input_answer source fault
+answer_at (Events seen) fault = Moved (record { seen = seen })
+answer_at _ fault = other_answer fault.refusal
+
+abbrev pub audit_fault : Fault → AuditFault
+audit_fault fault = answer_at fault.place fault
 
 -- the summary without how a start is written
 abbrev pub counts_of : AuditSummary → Summary
@@ -54,13 +72,13 @@ IsUnsized script before after fault =
 
 -- it is refused as a script of any version is
 pub record IsRefusedAlike {A : Type 0} (Says : A → List ℕ → Type 0) (script : List ℕ) (before after : Option (List ℕ))
-    (Refuses : ReportFault → Type 0) (fault : AuditFault) : Type 0 where
+    (Refuses : Fault → Type 0) (fault : AuditFault) : Type 0 where
   pub sized : unsized_fault script ≡ None
-  pub whole : ReportFault
+  pub whole : Fault
   pub refused : IsRefused Says before after Refuses whole
   pub same : fault ≡ audit_fault whole
 
 abbrev pub IsRefusedSized : {A : Type 0} (Says : A → List ℕ → Type 0) (script : List ℕ)
-    (before after : Option (List ℕ)) (Refuses : ReportFault → Type 0) → AuditFault → Type 0
+    (before after : Option (List ℕ)) (Refuses : Fault → Type 0) → AuditFault → Type 0
 IsRefusedSized Says script before after Refuses fault =
     IsUnsized script before after fault ⊎ IsRefusedAlike Says script before after Refuses fault

@@ -2,16 +2,14 @@
 use Rattle.std.specs.Prelude.{◌≡◌, ◌⊎◌, ℕ, List, length, count_by, not, Ok, Err}
 use Rattle.pmp_core.specs.declared.decision.Decision.{Decision}
 use Rattle.pmp_text.specs.declared.trace.TraceRow.{TraceRow}
-use Rattle.pmp_text.specs.declared.trace.RowFault.{RowFault}
+use Rattle.pmp_text.specs.declared.fault.Fault.{Fault}
 use Rattle.pmp_text.specs.Contents.{ScriptContents}
 use Rattle.pmp_text.specs.Moments.{moments_in}
-use Rattle.pmp_text.specs.Outcomes.{no_input_for_rows}
 use Rattle.pmp_text.specs.Reports.{IsReport, report_text}
 use Rattle.pmp_text.specs.Scripts.{script_meaning}
 use Rattle.pmp_text.specs.Traces.{first_bare, trace_meaning}
-use Rattle.pmp_audit.specs.declared.fault.ReportFault.{ReportFault}
-use Rattle.pmp_audit.specs.declared.fault.ReportFault.TheVariants.{Script, Trace}
 use Rattle.pmp_audit.specs.declared.trace_audit.AuditSummary.{AuditSummary}
+use Rattle.pmp_audit.specs.AskedFile.{ScriptRefuses}
 
 -- the number of rows decided, of those refused, and the number of the first whose start is bare; rows are numbered from
 -- `first`
@@ -34,14 +32,12 @@ pub record AuditSays (script trace : List ℕ) (summary : AuditSummary) (text : 
   pub report : IsReport contents trace text
   pub counted : summary ≡ summary_of 1 report.rows report.decisions
 
--- the script has no fault, and the trace has this one, or its input failed
-pub record IsFaultyTrace (script trace : List ℕ) (fault : RowFault) : Type 0 where
+-- the script has no fault, and the trace has this one
+pub record IsFaultyTrace (script trace : List ℕ) (fault : Fault) : Type 0 where
   pub contents : ScriptContents
   pub script_means : script_meaning script ≡ Ok contents
-  pub trace_means : (trace_meaning (moments_in contents) trace ≡ Err fault) ⊎ (fault ≡ no_input_for_rows)
+  pub trace_means : trace_meaning (moments_in contents) trace ≡ Err fault
 
 -- the script's own fault, or else the trace's
-abbrev pub AuditRefuses : (script trace : List ℕ) → ReportFault → Type 0
-AuditRefuses script trace (Script fault) = script_meaning script ≡ Err fault
-AuditRefuses script trace (Trace fault) = IsFaultyTrace script trace fault
-AuditRefuses script trace _ = ⊥
+abbrev pub AuditRefuses : (script trace : List ℕ) → Fault → Type 0
+AuditRefuses script trace fault = ScriptRefuses script fault ⊎ IsFaultyTrace script trace fault

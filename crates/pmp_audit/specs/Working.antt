@@ -8,10 +8,10 @@ use Rattle.pmp_core.specs.Ranges.{decision_of}
 use Rattle.pmp_core.specs.RegisterFile.{RegisterFile}
 use Rattle.pmp_share.specs.Batches.{Batches, StartsWith, event_count, file_from}
 use Rattle.pmp_text.specs.declared.trace.TraceRow.{TraceRow}
-use Rattle.pmp_share.specs.declared.fault.ShareFault.TheVariants.{NoPlace}
-use Rattle.pmp_audit.specs.declared.fault.ReportFault.{ReportFault}
-use Rattle.pmp_audit.specs.declared.fault.ReportFault.TheVariants.{Share, Moved, Memory}
+use Rattle.pmp_text.specs.declared.fault.Fault.{Fault}
 use Rattle.pmp_audit.specs.declared.shared_audit.job.Done.{Done}
+use Rattle.pmp_audit.specs.Answers.{Declines}
+use Rattle.pmp_audit.specs.Fault.{Stopped}
 
 -- a worker has the items whose place modulo the number of workers is its own, in order
 abbrev pub IsDealt : {A : Type 0} → (worker workers : ℕ) → (all hand : List A) → Type 0
@@ -27,11 +27,8 @@ pub record HasLearnt (known : Known) (count : ℕ) (file : RegisterFile) : Type 
   pub reached : count ≤ event_count known.list
 
 -- what may stop a round, or one of its workers, that was told of these batches
-abbrev pub StopsRound : Batches → ReportFault → Type 0
-StopsRound told Memory = ⊤
-StopsRound told (Share NoPlace) = ⊤
-StopsRound told (Moved moved) = event_count told < moved.seen
-StopsRound told _ = ⊥
+abbrev pub StopsRound : Batches → Fault → Type 0
+StopsRound told = Declines (Stopped (λ seen. event_count told < seen))
 
 abbrev pub decided_in : RegisterFile → List TraceRow → List Decision
 decided_in file rows = map (λ row. decision_of file row.access) rows

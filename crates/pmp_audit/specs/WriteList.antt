@@ -1,6 +1,6 @@
 -- Output about a script's events, and when it is refused.
 use Rattle.std.specs.Prelude.{◌≡◌, ℕ, ◌+◌, ◌==◌, ◌&&◌, Bool, false, not, List, [], ◌++◌, length, map, take, count_by}
-use Rattle.std.specs.Prelude.{fold, Ok, Err}
+use Rattle.std.specs.Prelude.{fold, Ok}
 use Rattle.std.specs.List.{enumerate_from, flat_map, range_with_len, slice_index_or, zip}
 use Rattle.pmp_core.specs.declared.event.Event.{Event}
 use Rattle.pmp_core.specs.declared.event.Event.TheVariants.{Write, Reset}
@@ -12,8 +12,6 @@ use Rattle.pmp_text.specs.Contents.{ScriptContents}
 use Rattle.pmp_text.specs.Effects.{effect_row}
 use Rattle.pmp_text.specs.Scripts.{script_meaning}
 use Rattle.pmp_audit.specs.AcceptedReasons.{has_other_reason}
-use Rattle.pmp_audit.specs.declared.fault.ReportFault.{ReportFault}
-use Rattle.pmp_audit.specs.declared.fault.ReportFault.TheVariants.{Script}
 use Rattle.pmp_audit.specs.declared.write_list.EventSummary.{EventSummary}
 use Rattle.pmp_audit.specs.declared.write_list.WriteSummary.{WriteSummary}
 use Rattle.pmp_audit.specs.Expectations.{differing, expected_rows}
@@ -92,8 +90,3 @@ pub record WritesSay (accepted : List ℕ) (script : List ℕ) (summary : WriteS
   pub script_means : script_meaning script ≡ Ok contents
   pub rows_are : rows ≡ all_rows contents
   pub counted : summary ≡ write_summary accepted contents
-
--- the script's own fault
-abbrev pub WritesRefuse : (script : List ℕ) → ReportFault → Type 0
-WritesRefuse script (Script fault) = script_meaning script ≡ Err fault
-WritesRefuse script _ = ⊥

@@ -9,11 +9,10 @@ ghost use Rattle.pmp_audit.specs.Answers.{AreAdded, Declines};
 ghost use Rattle.pmp_audit.specs.AuditedRows.{AuditRowsSay, DecisionsSay};
 ghost use Rattle.pmp_audit.specs.TraceAudit.{AuditRefuses};
 
-use crate::fault::ReportFault;
 use crate::replay::Replay;
 use crate::trace_audit::AuditSummary;
 use pmp_text::{
-    GrowingLog, ReadScript, RowSink, TraceRow, add_answer, read_script_in, read_trace_by,
+    Fault, GrowingLog, ReadScript, RowSink, TraceRow, add_answer, read_script_in, read_trace_by,
 };
 use std::alloc::{AllocError, Global};
 
@@ -26,7 +25,7 @@ pub fn add_audit<R: RowSink>(
     script: &[u8],
     trace: &[u8],
     out: &mut R,
-) -> Result<AuditSummary, ReportFault>
+) -> Result<AuditSummary, Fault>
     ensures ok { IfOk result (AreAdded R.Adds (AuditRowsSay script.now trace.now) out.old out.new) }
     ensures err { IfErr result (Declines (AuditRefuses script.now trace.now)) }
     ensures kept { OnErr result (R.Adds [] out.old out.new) }
@@ -42,7 +41,7 @@ fn add_trace<R: RowSink>(
     script: &ReadScript,
     trace: &[u8],
     out: &mut R,
-) -> Result<AuditSummary, ReportFault>
+) -> Result<AuditSummary, Fault>
     ensures ok { (text : List ℕ) → script_meaning text ≡ Ok script.now → IfOk result
         (AreAdded R.Adds (AuditRowsSay text trace.now) out.old out.new) }
     ensures err { (text : List ℕ) → script_meaning text ≡ Ok script.now → IfErr result

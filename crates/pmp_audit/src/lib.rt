@@ -30,7 +30,6 @@ mod write_list;
 pub use accepted_reason::are_reasons;
 pub use access_check::add_check;
 pub use audited_rows::add_audit;
-pub use fault::{ReportFault, Side};
 pub use gate::{Gate, OpenGate};
 pub use long_audit::{PIECE, audit_long};
 pub use policy_check::{AskedVerdicts, Breaches, Pace, PolicySummary, add_policy, append_verdict};

@@ -9,12 +9,11 @@ mod parts;
 mod reporting;
 
 use crate::answer::write_texts;
-use crate::fault::ReportFault;
 use crate::long_audit::parts::report_parts;
 use crate::long_audit::reporting::report_and_cut;
 use crate::standing::Standing;
 use crate::trace_audit::AuditSummary;
-use pmp_text::{Cut, GrowingLog, ReadScript, Refusal, cut_piece, read_script_in};
+use pmp_text::{Cut, Fault, GrowingLog, ReadScript, Refusal, Source, cut_piece, read_script_in};
 use std::alloc::Global;
 use std::io::{Read, Write};
 use std::thread::Threads;
@@ -42,7 +41,7 @@ pub fn audit_long<T: Threads + Sync, R: Read, W: Write>(
     limit: usize,
     reader: &mut R,
     writer: &mut W,
-) -> Result<AuditSummary, ReportFault>
+) -> Result<AuditSummary, Fault>
     ensures ok { IfOk result (λ summary. (trace : List ℕ) × IfSome (R.remaining reader.old) (λ those. trace ≡ those)
         × IsWritten (LongAuditSays script.now first trace) (W.contents writer.old) (W.contents writer.new) summary) }
     ensures err { IfErr result (λ fault. (trace : List ℕ) × IfSome (R.remaining reader.old) (λ those. trace ≡ those)
@@ -63,7 +62,7 @@ fn audit_pieces<T: Threads + Sync, R: Read, W: Write>(
     limit: usize,
     reader: &mut R,
     writer: &mut W,
-) -> Result<AuditSummary, ReportFault>
+) -> Result<AuditSummary, Fault>
     ensures ok { (text : List ℕ) → script_meaning text ≡ Ok script.now → IfOk result (λ summary.
         (trace : List ℕ) × IfSome (R.remaining reader.old) (λ those. trace ≡ those)
         × IsWritten (LongAuditSays text first trace) (W.contents writer.old) (W.contents writer.new) summary) }
@@ -90,10 +89,8 @@ fn audit_pieces<T: Threads + Sync, R: Read, W: Write>(
                 write_texts(writer, &report.texts)?;
                 return report.behind.end(first);
             }
-            Err(fault) => {
-                return Err(ReportFault::from(Refusal::from(fault).whole().at_row(0)));
-            }
+            Err(fault) => return Err(fault.of(Source::Trace)),
         }
     }
-    Err(ReportFault::from(Refusal::TooLong.whole().at_row(0)))
+    Err(Refusal::TooLong.whole().at_row(Source::Trace, 0))
 }

@@ -5,11 +5,10 @@ ghost use Rattle.pmp_text.specs.Moments.{moments_in};
 ghost use Rattle.pmp_text.specs.Tables.{records_of};
 ghost use Rattle.pmp_audit.specs.LongPieces.{IsPieceReported, PieceFails};
 
-use crate::fault::ReportFault;
 use crate::replay::Replay;
 use crate::report::list_row;
 use crate::standing::Standing;
-use pmp_text::{ReadScript, RowReader};
+use pmp_text::{Fault, ReadScript, RowReader};
 use std::alloc::Global;
 
 /// The report of a piece, text by text, and where the next piece begins.
@@ -25,7 +24,7 @@ fn report_rows(
     script: &ReadScript,
     rows: &mut RowReader<'_>,
     standing: Standing,
-) -> Result<PieceReport, ReportFault>
+) -> Result<PieceReport, Fault>
     requires moments { rows.old.moments ≡ moments_in script.now }
     requires place { rows.old.place ≡ standing.place }
     requires header { standing.place.begun ≡ false → rows.old.records ≡ [] }
@@ -59,7 +58,7 @@ pub fn report_piece(
     script: &ReadScript,
     text: &[u8],
     standing: Standing,
-) -> Result<PieceReport, ReportFault>
+) -> Result<PieceReport, Fault>
     requires { standing.faults ≤ standing.place.next }
     ensures ok { IfOk result (IsPieceReported script.now (records_of text.now) standing) }
     ensures err { IfErr result (PieceFails script.now (records_of text.now) standing) }

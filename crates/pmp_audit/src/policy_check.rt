@@ -20,14 +20,13 @@ mod search;
 mod steps;
 mod sweep;
 
-use crate::fault::ReportFault;
 use crate::moments::moments_of;
 use crate::policy_check::breach_list::breaches_of;
 use crate::policy_check::steps::Steps;
 use crate::policy_check::sweep::{Judged, judge, judge_rows};
 use pmp_text::{
-    Breach, EventLog, Label, PolicyFields, PolicyRow, ReadScript, RowSink, Verdict, add_verdict,
-    read_policy, read_script_in,
+    Breach, EventLog, Fault, Label, PolicyFields, PolicyRow, ReadScript, RowSink, Source, Verdict,
+    add_verdict, read_policy, read_script_in,
 };
 use std::alloc::{AllocError, Global};
 pub use steps::Pace;
@@ -73,7 +72,7 @@ pub fn add_policy<L: EventLog, R: RowSink>(
     script: &[u8],
     policy: &[u8],
     out: &mut R,
-) -> Result<PolicySummary, ReportFault>
+) -> Result<PolicySummary, Fault>
     ensures ok { IfOk result
         (AreAdded R.Adds (PolicySays asked.breaches asked.pace script.now policy.now) out.old out.new) }
     ensures err { IfErr result (Declines (PolicyRefuses script.now policy.now)) }
@@ -90,17 +89,14 @@ fn check_rows<R: RowSink>(
     script: &ReadScript,
     policy: &[u8],
     out: &mut R,
-) -> Result<PolicySummary, ReportFault>
+) -> Result<PolicySummary, Fault>
     ensures ok { (text : List ℕ) → script_meaning text ≡ Ok script.now → IfOk result
         (AreAdded R.Adds (PolicySays asked.breaches asked.pace text policy.now) out.old out.new) }
     ensures err { (text : List ℕ) → script_meaning text ≡ Ok script.now → IfErr result
         (Declines (PolicyRefuses text policy.now)) }
     ensures kept { OnErr result (R.Adds [] out.old out.new) }
 {
-    let policy = match read_policy(alloc, policy, &moments_of(script)) {
-        Ok(policy) => policy,
-        Err(fault) => return Err(ReportFault::of_policy(fault)),
-    };
+    let policy = read_policy(alloc, policy, &moments_of(script))?;
     let steps = Steps {
         script,
         pace: asked.pace,
@@ -120,7 +116,7 @@ pub fn append_verdict<L: EventLog, R: RowSink>(
     number: u64,
     fields: PolicyFields,
     out: &mut R,
-) -> Result<Verdict, ReportFault>
+) -> Result<Verdict, Fault>
     ensures ok { IfOk result (AreAdded R.Adds (VerdictSays pace script.now number fields) out.old out.new) }
     ensures err { IfErr result (Declines (VerdictRefuses script.now number fields)) }
     ensures kept { OnErr result (R.Adds [] out.old out.new) }
@@ -128,7 +124,7 @@ pub fn append_verdict<L: EventLog, R: RowSink>(
     let script = read_script_in(log, script)?;
     let row = match PolicyRow::new(script.batches(), fields) {
         Ok(row) => row,
-        Err(flaw) => return Err(ReportFault::Policy(flaw.at_row(number))),
+        Err(flaw) => return Err(flaw.at_row(Source::Policy, number)),
     };
     let script = &script;
     let steps = Steps { script, pace };

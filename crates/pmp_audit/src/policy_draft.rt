@@ -5,19 +5,21 @@ ghost use Rattle.pmp_text.specs.declared.trace.reader.TheConstants.{MAX_TRACE};
 ghost use Rattle.pmp_lint.specs.EndState.{end_of};
 ghost use Rattle.pmp_audit.specs.Answers.{Declines, IsAppended};
 ghost use Rattle.pmp_audit.specs.Growing.{HasGrown};
-ghost use Rattle.pmp_audit.specs.PolicyDraft.{AreNeverRows, DraftRefuses, DraftSays, IsDraftText, IsModeText};
+ghost use Rattle.pmp_audit.specs.PolicyDraft.{AreNeverRows, DraftSays, IsDraftText, IsModeText};
 ghost use Rattle.pmp_audit.specs.PolicyDraft.{last_moment, last_word};
+ghost use Rattle.pmp_audit.specs.AskedFile.{ScriptRefuses};
 
 mod closed_range;
 mod never_row;
 
-use crate::fault::ReportFault;
 use crate::policy_draft::closed_range::closed_range_from;
 use crate::policy_draft::never_row::{LastMoment, NeverRow};
 use crate::replay::file_of;
 use pmp_core::{Kind, Mode, RegFile};
 use pmp_text::laws::law_script_size;
-use pmp_text::{EventLog, MAX_TRACE, ReadScript, Sink, append_line, read_script_in};
+use pmp_text::{
+    EventLog, Fault, MAX_TRACE, ReadScript, Refusal, Sink, append_line, read_script_in,
+};
 use std::alloc::AllocError;
 
 /// The first line, which names the fields.
@@ -33,9 +35,9 @@ pub fn append_policy_from<L: EventLog, S: Sink>(
     log: &mut L,
     script: &[u8],
     out: &mut S,
-) -> Result<(), ReportFault>
+) -> Result<(), Fault>
     ensures ok { IfOk result (IsAppended (DraftSays script.now) (S.text out.old) (S.text out.new)) }
-    ensures err { IfErr result (Declines (DraftRefuses script.now)) }
+    ensures err { IfErr result (Declines (ScriptRefuses script.now)) }
     ensures kept { OnErr result (S.text out.new ≡ S.text out.old) }
 {
     let script = read_script_in(log, script)?;
@@ -44,7 +46,7 @@ pub fn append_policy_from<L: EventLog, S: Sink>(
     let made = append_script(out, &script);
     if made.is_err() || out.position() - before > MAX_TRACE {
         out.go_back(before);
-        return Err(ReportFault::Memory);
+        return Err(Fault::from(Refusal::Memory));
     }
     Ok(())
 }

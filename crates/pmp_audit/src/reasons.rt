@@ -5,15 +5,13 @@ ghost use Rattle.pmp_lint.specs.Why.{AreAnswerRuns};
 ghost use Rattle.pmp_lint.specs.declared.answer_run.AnswerRun.{AnswerRun};
 ghost use Rattle.pmp_text.specs.Cells.{AddsSome};
 ghost use Rattle.pmp_audit.specs.Answers.{AreAdded, Declines};
-ghost use Rattle.pmp_audit.specs.AskedFile.{FileRefuses};
+ghost use Rattle.pmp_audit.specs.AskedFile.{FileRefuses, ScriptRefuses};
 ghost use Rattle.pmp_audit.specs.Reasons.{FindingsSay, ReasonsSay, reasons_rows};
-ghost use Rattle.pmp_audit.specs.WriteList.{WritesRefuse};
 
 use crate::asked_count::asked_count;
-use crate::fault::ReportFault;
 use pmp_core::{Access, Decision};
 use pmp_lint::{Because, add_history, add_lint, add_why, why};
-use pmp_text::{EventLog, ReadScript, RowSink, When, read_script_in};
+use pmp_text::{EventLog, Fault, ReadScript, RowSink, When, read_script_in};
 use std::alloc::AllocError;
 
 /// Decides the access after the script's publications done at the given moment, or after all of them if that is none,
@@ -26,7 +24,7 @@ pub fn add_reasons<L: EventLog, R: RowSink>(
     access: &Access,
     after: Option<When>,
     out: &mut R,
-) -> Result<Decision, ReportFault>
+) -> Result<Decision, Fault>
     ensures ok { IfOk result (AreAdded R.Adds (ReasonsSay script.now access.now after) out.old out.new) }
     ensures err { IfErr result (Declines (FileRefuses script.now after)) }
     ensures kept { OnErr result (R.Adds [] out.old out.new) }
@@ -80,9 +78,9 @@ pub fn add_findings<L: EventLog, R: RowSink>(
     script: &[u8],
     accepted: &[u8],
     out: &mut R,
-) -> Result<usize, ReportFault>
+) -> Result<usize, Fault>
     ensures ok { IfOk result (AreAdded R.Adds (FindingsSay script.now accepted.now) out.old out.new) }
-    ensures err { IfErr result (Declines (WritesRefuse script.now)) }
+    ensures err { IfErr result (Declines (ScriptRefuses script.now)) }
     ensures kept { OnErr result (R.Adds [] out.old out.new) }
 {
     Ok(add_lint(log, script, accepted, out)?)

@@ -5,13 +5,13 @@ ghost use Rattle.pmp_core.specs.Decision.{IsDecision};
 ghost use Rattle.pmp_text.specs.Reports.{file_of_script};
 ghost use Rattle.pmp_audit.specs.Replay.{file_at};
 ghost use Rattle.pmp_audit.specs.ScriptDiff.{GivesFile};
-ghost use Rattle.pmp_audit.specs.Sides.{FailsFile};
+ghost use Rattle.pmp_audit.specs.Answers.{Declines};
+ghost use Rattle.pmp_audit.specs.AskedFile.{FileRefuses};
 
 use crate::asked_count::asked_count;
-use crate::fault::ReportFault;
 use pmp_core::{Access, Decision, RegFile};
 use pmp_map::RunMap;
-use pmp_text::{EventLog, ReadScript, When, read_script_in};
+use pmp_text::{EventLog, Fault, ReadScript, When, read_script_in};
 use std::marker::Model;
 
 /// A script whose first publications are executed. A contract sees the script, and the number of these publications.
@@ -116,9 +116,9 @@ pub fn file_after<L: EventLog>(
     log: &mut L,
     script: &[u8],
     after: Option<When>,
-) -> Result<RegFile, ReportFault>
+) -> Result<RegFile, Fault>
     ensures ok { IfOk result (λ file. GivesFile script.now after file) }
-    ensures err { IfErr result (FailsFile script.now after) }
+    ensures err { IfErr result (Declines (FileRefuses script.now after)) }
 {
     let script = read_script_in(log, script)?;
     let count = asked_count(&script, after)?;

@@ -5,14 +5,13 @@ ghost use Rattle.pmp_audit.specs.Answers.{AreAdded, Declines};
 ghost use Rattle.pmp_text.specs.Cells.{AddsSome};
 ghost use Rattle.pmp_core.specs.declared.access.TheConstants.{ADDRESS_LIMIT};
 ghost use Rattle.pmp_audit.specs.ScriptDiff.{ChangesSay, DiffRefuses, DiffSays, FilesSay, GivesFile, LocksSay};
-ghost use Rattle.pmp_audit.specs.Sides.{FailsFile, fault_on};
-ghost use Rattle.pmp_audit.specs.declared.fault.ReportFault.{ReportFault};
+ghost use Rattle.pmp_audit.specs.Sides.{OnSide};
+ghost use Rattle.pmp_audit.specs.AskedFile.{FileRefuses};
 
-use crate::fault::{ReportFault, Side};
 use crate::replay::file_after;
 use pmp_core::{ADDRESS_LIMIT, RegFile, Registers};
 use pmp_map::{Aspect, compared_run_from};
-use pmp_text::{EventLog, Only, RowSink, When, add_change};
+use pmp_text::{EventLog, Fault, Only, RowSink, Source, When, add_change};
 use std::alloc::AllocError;
 
 /// The wanted rows of a difference.
@@ -45,15 +44,15 @@ pub fn add_diff<L: EventLog, R: RowSink>(
     new: Moment<'_>,
     asked: AskedChanges,
     out: &mut R,
-) -> Result<u64, ReportFault>
+) -> Result<u64, Fault>
     ensures ok { IfOk result (AreAdded R.Adds
         (DiffSays old.entry.script.now old.entry.after new.entry.script.now new.entry.after asked) out.old out.new) }
     ensures err { IfErr result (Declines
         (DiffRefuses old.entry.script.now old.entry.after new.entry.script.now new.entry.after)) }
     ensures kept { OnErr result (R.Adds [] out.old out.new) }
 {
-    let old_file = file_on(Side::Old, log, old)?;
-    let new_file = file_on(Side::New, log, new)?;
+    let old_file = file_on(Source::Old, log, old)?;
+    let new_file = file_on(Source::New, log, new)?;
     Ok(add_rows(out, &old_file, &new_file, asked)?)
 }
 
@@ -135,10 +134,12 @@ fn add_differences<R: RowSink>(
 }
 
 /// Returns the register file of the script on this side, or why it has none.
-fn file_on<L: EventLog>(side: Side, log: &mut L, moment: Moment<'_>) -> Result<RegFile, ReportFault>
+fn file_on<L: EventLog>(side: Source, log: &mut L, moment: Moment<'_>) -> Result<RegFile, Fault>
     ensures ok { IfOk result (λ file. GivesFile moment.entry.script.now moment.entry.after file) }
-    ensures err { IfErr result (λ fault. (why : ReportFault) × (fault ≡ fault_on side why)
-        × FailsFile moment.entry.script.now moment.entry.after why) }
+    ensures err { IfErr result (Declines (OnSide side (FileRefuses moment.entry.script.now moment.entry.after))) }
 {
-    file_after(log, moment.script, moment.after).map_err(|fault| fault.on_side(side))
+    match file_after(log, moment.script, moment.after) {
+        Ok(file) => Ok(file),
+        Err(fault) => Err(fault.on(side)),
+    }
 }

@@ -17,14 +17,13 @@ mod running;
 mod working;
 
 use crate::answer::write_answer;
-use crate::fault::ReportFault;
 use crate::gate::Gate;
 use crate::report::list_decisions;
 use crate::trace_audit::AuditSummary;
 use deciding::decide_shared;
 use pmp_core::laws::law_decided_by_ranges;
 use pmp_text::laws::{law_legal_start, law_script_size};
-use pmp_text::{GrowingLog, ReadScript, read_script_in, read_trace_by};
+use pmp_text::{Fault, GrowingLog, ReadScript, read_script_in, read_trace_by};
 use std::alloc::Global;
 use std::io::Write;
 use std::sync::Wait;
@@ -48,7 +47,7 @@ pub fn audit_by_workers<R: Threads + Wait + Sync, G: Gate + Sync, W: Write>(
     script: &[u8],
     trace: &[u8],
     writer: &mut W,
-) -> Result<AuditSummary, ReportFault>
+) -> Result<AuditSummary, Fault>
     requires { (1 ≤ k) × (k ≤ CHECKERS) }
     ensures ok { IfOk result
         (IsWritten (AuditSays script.now trace.now) (W.contents writer.old) (W.contents writer.new)) }
@@ -71,7 +70,7 @@ fn audit_trace<R: Threads + Wait + Sync, G: Gate + Sync, W: Write>(
     script: &ReadScript,
     trace: &[u8],
     writer: &mut W,
-) -> Result<AuditSummary, ReportFault>
+) -> Result<AuditSummary, Fault>
     requires workers { (1 ≤ k) × (k ≤ CHECKERS) }
     requires size { IsInLimits script.now.batches }
     ensures ok { (text : List ℕ) → script_meaning text ≡ Ok script.now → IfOk result

@@ -9,7 +9,7 @@ ghost use Rattle.pmp_audit.specs.Answers.{InCsv, IsRefused, IsWritten};
 ghost use Rattle.pmp_audit.specs.AskedFile.{FileRefuses};
 ghost use Rattle.pmp_audit.specs.SharedAudit.{SharedAuditRefuses};
 ghost use Rattle.pmp_audit.specs.SizedAnswers.{IsRefusedSized, IsSized, audit_fault, counts_of, numbered_after};
-ghost use Rattle.pmp_audit.specs.SizedAnswers.{AreCounted};
+ghost use Rattle.pmp_audit.specs.SizedAnswers.{AreCounted, input_answer, other_answer, script_answer};
 ghost use Rattle.pmp_audit.specs.TraceAudit.{AuditRefuses, AuditSays};
 ghost use Rattle.pmp_audit.specs.View.{ListingSays, ViewSays};
 ghost use Rattle.pmp_audit.specs.declared.sized.AuditFault.TheVariants as sized;
@@ -18,14 +18,15 @@ ghost use Rattle.pmp_audit.specs.declared.view.View.TheVariants.{Registers};
 
 use crate::access_check::add_check;
 use crate::answer::write_answer;
-use crate::fault::ReportFault;
 use crate::gate::Gate;
 use crate::shared_audit::audit_by_workers;
 use crate::trace_audit::{AuditSummary, audit_whole};
 use crate::view::{AskedView, Listing, View, add_listing, append_view};
 use pmp_core::{Access, Decision};
 use pmp_share::{Moved, ShareFault};
-use pmp_text::{GrowingLog, ScriptFault, TraceFault, When, unsized_fault};
+use pmp_text::{
+    Fault, GrowingLog, Place, Refusal, ScriptFault, Source, TraceFault, When, unsized_fault,
+};
 use std::alloc::Global;
 use std::io::Write;
 use std::sync::Wait;
@@ -65,23 +66,45 @@ pub struct Summary {
     pub faults: u64,
 }
 
-impl From<ReportFault> for AuditFault {
+impl AuditFault {
+    fn of_script(fault: Fault) -> AuditFault
+        ensures { result ≡ script_answer fault.refusal fault }
+    {
+        match fault.refusal {
+            Refusal::BadAfter | Refusal::NoMoment => AuditFault::BadAfter,
+            _ => AuditFault::Script(ScriptFault::from(fault)),
+        }
+    }
+
+    fn of_input(source: Source, fault: Fault) -> AuditFault
+        ensures { result ≡ input_answer source fault }
+    {
+        match source {
+            Source::Trace | Source::Policy => AuditFault::Trace(TraceFault::from(fault)),
+            _ => AuditFault::of_script(fault),
+        }
+    }
+
+    fn of_no_input(refusal: Refusal) -> AuditFault
+        ensures { result ≡ other_answer refusal }
+    {
+        match refusal {
+            Refusal::NoPlace => AuditFault::Share(ShareFault::NoPlace),
+            Refusal::Full => AuditFault::Share(ShareFault::Full),
+            Refusal::Output => AuditFault::Output,
+            _ => AuditFault::Memory,
+        }
+    }
+}
+
+impl From<Fault> for AuditFault {
     ghost from_gives = { λ fault simple. simple ≡ audit_fault fault };
 
-    fn from(fault: ReportFault) -> AuditFault {
-        match fault {
-            ReportFault::Script(fault) | ReportFault::ScriptOf(_, fault) => {
-                AuditFault::Script(ScriptFault::from(fault))
-            }
-            ReportFault::Trace(fault) | ReportFault::Policy(fault) => {
-                AuditFault::Trace(TraceFault::from(fault))
-            }
-            ReportFault::Share(fault) => AuditFault::Share(fault),
-            ReportFault::Moved(moved) => AuditFault::Moved(moved),
-            ReportFault::BadAfter | ReportFault::BadAfterOf(_) => AuditFault::BadAfter,
-            ReportFault::NoMoment | ReportFault::NoMomentOf(_) => AuditFault::BadAfter,
-            ReportFault::Memory => AuditFault::Memory,
-            ReportFault::Output => AuditFault::Output,
+    fn from(fault: Fault) -> AuditFault {
+        match fault.place {
+            Place::In { source, .. } => AuditFault::of_input(source, fault),
+            Place::Events(seen) => AuditFault::Moved(Moved { seen }),
+            _ => AuditFault::of_no_input(fault.refusal),
         }
     }
 }
@@ -136,7 +159,7 @@ fn check_any<W: Write>(
     script: &[u8],
     access: &Access,
     writer: &mut W,
-) -> Result<Decision, ReportFault>
+) -> Result<Decision, Fault>
     ensures ok { IfOk result (IsWritten (InCsv (CheckSays script.now access.now None))
         (W.contents writer.old) (W.contents writer.new)) }
     ensures err { IfErr result (IsRefused (InCsv (CheckSays script.now access.now None))
@@ -220,7 +243,7 @@ fn list_runs<W: Write>(
     script: &[u8],
     after: Option<When>,
     writer: &mut W,
-) -> Result<(), ReportFault>
+) -> Result<(), Fault>
     ensures ok { IfOk result (IsWritten (InCsv (ListingSays Runs script.now after))
         (W.contents writer.old) (W.contents writer.new)) }
     ensures err { IfErr result (IsRefused (InCsv (ListingSays Runs script.now after))
@@ -244,7 +267,7 @@ fn show_registers<W: Write>(
     script: &[u8],
     after: Option<When>,
     writer: &mut W,
-) -> Result<(), ReportFault>
+) -> Result<(), Fault>
     ensures ok { IfOk result (IsWritten (ViewSays Registers None script.now after)
         (W.contents writer.old) (W.contents writer.new)) }
     ensures err { IfErr result (IsRefused (ViewSays Registers None script.now after)

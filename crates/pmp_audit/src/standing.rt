@@ -5,16 +5,15 @@ ghost use Rattle.pmp_text.specs.LongTraces.{beginning};
 ghost use Rattle.pmp_text.specs.Flaws.{at_row};
 ghost use Rattle.pmp_text.specs.declared.refusal.Refusal.TheVariants.{BadHeader};
 ghost use Rattle.pmp_text.specs.Flaws.{as_whole};
-ghost use Rattle.pmp_audit.specs.declared.fault.ReportFault.TheVariants.{Trace};
+ghost use Rattle.pmp_text.specs.declared.fault.Source.TheVariants as source;
 
-use crate::fault::ReportFault;
 use crate::trace_audit::AuditSummary;
-use pmp_text::{Place, Refusal};
+use pmp_text::{Fault, Position, Refusal, Source};
 
 /// Where the next piece begins, and how many accesses were refused before it.
 #[derive(Clone, Copy)]
 pub struct Standing {
-    pub place: Place,
+    pub place: Position,
     pub faults: u64,
 }
 
@@ -24,21 +23,21 @@ impl Standing {
         ensures { result ≡ record { place = beginning first; faults = 0 } }
     {
         Standing {
-            place: Place::beginning(first),
+            place: Position::beginning(first),
             faults: 0,
         }
     }
 
     /// Returns, after the last piece, the accesses decided and refused. A trace without a record has no header.
-    pub fn end(self, first: u64) -> Result<AuditSummary, ReportFault>
+    pub fn end(self, first: u64) -> Result<AuditSummary, Fault>
         requires { first ≤ self.place.next }
         ensures { MatchResult result
             (λ summary. (self.place.begun ≡ true)
             × (summary ≡ record { rows = self.place.next - first; faults = self.faults; bare = self.place.bare }))
-            (λ fault. (self.place.begun ≡ false) × (fault ≡ Trace (at_row 0 (as_whole BadHeader)))) }
+            (λ fault. (self.place.begun ≡ false) × (fault ≡ at_row source.Trace 0 (as_whole BadHeader))) }
     {
         if !self.place.begun {
-            return Err(ReportFault::Trace(Refusal::BadHeader.whole().at_row(0)));
+            return Err(Refusal::BadHeader.whole().at_row(Source::Trace, 0));
         }
         Ok(AuditSummary {
             rows: self.place.next - first,

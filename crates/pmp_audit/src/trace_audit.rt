@@ -7,10 +7,11 @@ ghost use Rattle.pmp_audit.specs.Answers.{IsWritten, IsRefused};
 ghost use Rattle.pmp_audit.specs.TraceAudit.{AuditSays, AuditRefuses};
 
 use crate::answer::write_texts;
-use crate::fault::ReportFault;
 use crate::piece::report_piece;
 use crate::standing::Standing;
-use pmp_text::{GrowingLog, MAX_TRACE, ReadScript, Refusal, TraceRow, read_script_in};
+use pmp_text::{
+    Fault, GrowingLog, MAX_TRACE, ReadScript, Refusal, Source, TraceRow, read_script_in,
+};
 use std::alloc::Global;
 use std::io::Write;
 
@@ -64,7 +65,7 @@ pub fn audit_whole<W: Write>(
     script: &[u8],
     trace: &[u8],
     writer: &mut W,
-) -> Result<AuditSummary, ReportFault>
+) -> Result<AuditSummary, Fault>
     ensures ok { IfOk result
         (IsWritten (AuditSays script.now trace.now) (W.contents writer.old) (W.contents writer.new)) }
     ensures err { IfErr result
@@ -82,7 +83,7 @@ fn audit_trace<W: Write>(
     script: &ReadScript,
     trace: &[u8],
     writer: &mut W,
-) -> Result<AuditSummary, ReportFault>
+) -> Result<AuditSummary, Fault>
     ensures ok { (text : List ℕ) → script_meaning text ≡ Ok script.now → IfOk result
         (IsWritten (AuditSays text trace.now) (W.contents writer.old) (W.contents writer.new)) }
     ensures err { (text : List ℕ) → script_meaning text ≡ Ok script.now → IfErr result
@@ -90,7 +91,7 @@ fn audit_trace<W: Write>(
         (AuditRefuses text trace.now)) }
 {
     if trace.len() > MAX_TRACE {
-        return Err(ReportFault::from(Refusal::TooLong.whole().at_row(0)));
+        return Err(Refusal::TooLong.whole().at_row(Source::Trace, 0));
     }
     let report = report_piece(alloc, script, trace, Standing::beginning(1))?;
     let summary = report.behind.end(1)?;

@@ -9,13 +9,12 @@ ghost use Rattle.pmp_audit.specs.AskedFile.{FileRefuses};
 ghost use Rattle.pmp_audit.specs.View.{AreListed, IsViewText, ListingSays, ViewSays};
 
 use crate::asked_count::asked_count;
-use crate::fault::ReportFault;
 use crate::replay::file_of;
 use crate::since::since_of;
 use pmp_map::RunMap;
 use pmp_text::laws::law_legal_start;
 use pmp_text::{
-    AddressNames, Drawing, EventLog, ReadScript, RowSink, Sink, When, add_entries, add_runs,
+    AddressNames, Drawing, EventLog, Fault, ReadScript, RowSink, Sink, When, add_entries, add_runs,
     read_script_in, write_picture, write_registers, write_script,
 };
 use std::alloc::AllocError;
@@ -48,7 +47,7 @@ pub fn add_listing<L: EventLog, R: RowSink>(
     script: &[u8],
     after: Option<When>,
     out: &mut R,
-) -> Result<(), ReportFault>
+) -> Result<(), Fault>
     ensures ok { IfOk result (AreAdded R.Adds (ListingSays listing script.now after) out.old out.new) }
     ensures err { IfErr result (Declines (FileRefuses script.now after)) }
     ensures kept { OnErr result (R.Adds [] out.old out.new) }
@@ -101,7 +100,7 @@ pub fn append_view<L: EventLog, S: Sink>(
     asked: AskedView<'_>,
     script: &[u8],
     out: &mut S,
-) -> Result<(), ReportFault>
+) -> Result<(), Fault>
     ensures ok { IfOk result (IsAppended
         (ViewSays asked.entry.view (given_names asked.entry.names) script.now asked.entry.after)
         (S.text out.old) (S.text out.new)) }

@@ -7,14 +7,14 @@ ghost use Rattle.pmp_text.specs.Sizes.{IsInLimits};
 ghost use Rattle.pmp_audit.specs.Answers.{AreAdded, Declines};
 ghost use Rattle.pmp_audit.specs.EventRows.{AreWritten};
 ghost use Rattle.pmp_audit.specs.WriteList.{all_rows, placed, placed_events, event_rows, has_fault, event_summary};
-ghost use Rattle.pmp_audit.specs.WriteList.{WritesSay, WritesRefuse, write_summary};
+ghost use Rattle.pmp_audit.specs.WriteList.{WritesSay, write_summary};
+ghost use Rattle.pmp_audit.specs.AskedFile.{ScriptRefuses};
 
 use crate::accepted_reason::has_other_reason;
 use crate::expectations::add_expectations;
-use crate::fault::ReportFault;
 use pmp_core::{Event, RegFile};
 use pmp_text::laws::law_script_size;
-use pmp_text::{EventLog, EventPlace, ReadScript, RowSink, add_effect, read_script_in};
+use pmp_text::{EventLog, EventPlace, Fault, ReadScript, RowSink, add_effect, read_script_in};
 use std::alloc::AllocError;
 
 /// How many events a script has, how many of them are writes that the register doesn't read back as written, how often
@@ -39,9 +39,9 @@ pub fn add_writes<L: EventLog, R: RowSink>(
     script: &[u8],
     accepted: &[u8],
     out: &mut R,
-) -> Result<WriteSummary, ReportFault>
+) -> Result<WriteSummary, Fault>
     ensures ok { IfOk result (AreAdded R.Adds (WritesSay accepted.now script.now) out.old out.new) }
-    ensures err { IfErr result (Declines (WritesRefuse script.now)) }
+    ensures err { IfErr result (Declines (ScriptRefuses script.now)) }
     ensures kept { OnErr result (R.Adds [] out.old out.new) }
 {
     let script = read_script_in(log, script)?;

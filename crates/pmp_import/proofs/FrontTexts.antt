@@ -1,7 +1,7 @@
 -- A script begins with what the first lines of its log give.
 use Rattle.std.proofs.Common.{◌≡◌, ℕ, List, [], ◌∷◌, ◌++◌, Result, Ok, Err, refl, sym, ap, ◌∙◌, append_assoc}
 use Rattle.pmp_text.specs.declared.refusal.Refusal.{Refusal}
-use Rattle.pmp_import.specs.declared.fault.ImportFault.{ImportFault}
+use Rattle.pmp_text.specs.declared.fault.Fault.{Fault}
 use Rattle.pmp_import.specs.declared.given.Given.{Given}
 use Rattle.pmp_import.specs.declared.given.Walk.{Walk}
 use Rattle.pmp_import.specs.declared.said.Said.{Said}
@@ -13,7 +13,7 @@ abbrev Begins : (front text : List ℕ) → Type 0
 Begins front text = (rest : List ℕ) × (text ≡ front ++ rest)
 
 -- where it begins so after a text, it begins so with that
-both_begin : (one front script : List ℕ) (later : Result (List ℕ) ImportFault)
+both_begin : (one front script : List ℕ) (later : Result (List ℕ) Fault)
     → ((text : List ℕ) → later ≡ Ok text → Begins front text) → with_front one later ≡ Ok script
     → Begins (one ++ front) script
 both_begin one front script (Ok text) begins e =
@@ -27,7 +27,7 @@ module _ (given : Given) where
       → ((said : Said) (text : List ℕ)
       → imported_from given (behind_said given walk said) (more ++ behind) ≡ Ok text
       → Begins (lines_text given (behind_said given walk said) more) text)
-      → ◌≡◌ {A = Result (List ℕ) ImportFault} (elim read [
+      → ◌≡◌ {A = Result (List ℕ) Fault} (elim read [
         | Ok said ↦ with_front (said_text given walk said)
             (imported_from given (behind_said given walk said) (more ++ behind))
         | Err refusal ↦ Err (at walk.line refusal)

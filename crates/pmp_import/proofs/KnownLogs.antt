@@ -12,12 +12,13 @@ use Rattle.pmp_text.specs.declared.refusal.Refusal.TheVariants.{Input, Memory, T
 use Rattle.pmp_text.specs.Cutting.{AreLines, IsLast, IsLineCut}
 use Rattle.pmp_text.specs.Lines.{lines}
 use Rattle.pmp_text.proofs.WholeLines.{AreWhole, both_whole, ended_whole, none_whole}
-use Rattle.pmp_import.specs.declared.fault.ImportFault.{ImportFault}
+use Rattle.pmp_text.specs.declared.fault.Fault.{Fault}
 use Rattle.pmp_import.specs.declared.whole_log.TheConstants.{MOST_LINES}
 use Rattle.pmp_import.specs.Imported.{at, stop_at}
 use Rattle.pmp_import.specs.Imports.{AreFine, AreWholeLines, IsLog, Stops, no_input, no_memory, refused, too_long}
 use Rattle.pmp_import.specs.Imports.{uncounted}
 use Rattle.pmp_import.specs.Surveys.{one_more}
+use Rattle.pmp_text.specs.Outcomes as outcome
 
 abbrev pub Bytes : Type 0
 Bytes = Option (List ℕ)
@@ -41,8 +42,8 @@ unfolding lines
 no_lines = refl
 
 -- a reading of the log, which begins with these whole lines, stops
-pub record Stopped {X : Type 0} (comes_to : List (List ℕ) → Result X ImportFault) (had : Bytes) (done : List ℕ)
-    (fault : ImportFault) : Type 0
+pub record Stopped {X : Type 0} (comes_to : List (List ℕ) → Result X Fault) (had : Bytes) (done : List ℕ)
+    (fault : Fault) : Type 0
   where
     pub log : List ℕ
     pub is_log : IsLog had log
@@ -77,7 +78,7 @@ module _ {count : ℕ} {had mid : Bytes} {done held : List ℕ} (so_far : Taken 
       (log_of had new ((done ++ held) ++ taken) (Consumes-trans _ _ _ _ _ so_far.consumed consumed))
 
   -- the reading may stop, whatever the log is
-  pub any_time : {X : Type 0} (comes_to : List (List ℕ) → Result X ImportFault) (fault : ImportFault)
+  pub any_time : {X : Type 0} (comes_to : List (List ℕ) → Result X Fault) (fault : Fault)
       → ((log : List ℕ) → Stops comes_to log fault) → Stopped comes_to had done fault
   any_time comes_to fault stops = record {
     log = (done ++ held) ++ rest_of mid;
@@ -121,11 +122,11 @@ module _ {count : ℕ} {had mid : Bytes} {done held : List ℕ} (so_far : Taken 
         ∙ ap (λ (l : List (List ℕ)). lines done ++ l) (are_whole.apart (left ++ rest_of new))
 
     -- one of these lines is at fault, or memory ran out
-    pub piece_stops : {X : Type 0} (comes_to : List (List ℕ) → Result X ImportFault) (fault : ImportFault)
-        → (fault ≡ at 0 Memory)
+    pub piece_stops : {X : Type 0} (comes_to : List (List ℕ) → Result X Fault) (fault : Fault)
+        → (fault ≡ outcome.no_memory)
         ⊎ (comes_to (lines done ++ (lines piece ++ lines (left ++ rest_of new))) ≡ Err fault)
         → Stopped comes_to had done fault
-    piece_stops comes_to fault (inl memory) = rw memory (any_time comes_to (at 0 Memory) (λ log. no_memory))
+    piece_stops comes_to fault (inl memory) = rw memory (any_time comes_to outcome.no_memory (λ log. no_memory))
     piece_stops comes_to fault (inr stop) = record {
       log = done ++ (piece ++ (left ++ rest_of new));
       is_log = rw (← joined) (is_taken new cut.taken cut.consumed);
@@ -147,10 +148,10 @@ module _ {count : ℕ} {had mid : Bytes} {done held : List ℕ} (so_far : Taken 
         ∙ ap (λ (l : List (List ℕ)). lines done ++ l) (sym (append-nil (lines piece)))
 
     -- one of these lines is at fault, or none of all is the hart's, or memory ran out
-    pub last_stops : {X : Type 0} (comes_to : List (List ℕ) → Result X ImportFault) (fault : ImportFault)
-        → (fault ≡ at 0 Memory) ⊎ (comes_to (lines done ++ (lines piece ++ [])) ≡ Err fault)
+    pub last_stops : {X : Type 0} (comes_to : List (List ℕ) → Result X Fault) (fault : Fault)
+        → (fault ≡ outcome.no_memory) ⊎ (comes_to (lines done ++ (lines piece ++ [])) ≡ Err fault)
         → Stopped comes_to had done fault
-    last_stops comes_to fault (inl memory) = rw memory (any_time comes_to (at 0 Memory) (λ log. no_memory))
+    last_stops comes_to fault (inl memory) = rw memory (any_time comes_to outcome.no_memory (λ log. no_memory))
     last_stops comes_to fault (inr stop) = record {
       log = done ++ piece;
       is_log = last_log;
@@ -161,11 +162,11 @@ module _ {count : ℕ} {had mid : Bytes} {done held : List ℕ} (so_far : Taken 
 
   -- ---- no lines
 
-  module _ {X : Type 0} (comes_to : List (List ℕ) → Result X ImportFault) where
+  module _ {X : Type 0} (comes_to : List (List ℕ) → Result X Fault) where
     -- the next line has this number, and none before it is at fault
     pub cut_stops : (new : Bytes) (line : ℕ) (fault : InputFault) (left : List ℕ) → AreFine comes_to (lines done)
         → line ≡ one_more (length (lines done)) → IsLineCut MOST_LINES held mid new left (Err fault)
-        → Stopped comes_to had done (stop_at line (refusal_of_input fault))
+        → Stopped comes_to had done (stop_at line fault)
     cut_stops new line input.TooLong left fine next cut = record {
       log = done ++ ((held ++ cut.taken) ++ rest_of new);
       is_log = is_taken new cut.taken cut.consumed;
@@ -184,7 +185,7 @@ module _ {count : ℕ} {had mid : Bytes} {done held : List ℕ} (so_far : Taken 
       });
     }
     cut_stops new line input.Input left fine next cut = any_time comes_to (at 0 Input) (λ log. no_input)
-    cut_stops new line input.Memory left fine next cut = any_time comes_to (at 0 Memory) (λ log. no_memory)
+    cut_stops new line input.Memory left fine next cut = any_time comes_to outcome.no_memory (λ log. no_memory)
 
     -- more pieces than can be counted
     pub count_stops : (line : ℕ) → 2 ^ 64 - 1 ≤ count → Stopped comes_to had done (at line TooLong)

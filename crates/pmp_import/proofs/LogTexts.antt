@@ -1,7 +1,7 @@
 -- A log that is at hand, read as a whole.
 use Rattle.std.proofs.Common.{◌≡◌, ℕ, List, [], ◌++◌, Result, Ok, Err, refl, sym, ap, ◌∙◌, inl, inr}
 use Rattle.std.proofs.Common.{append_assoc, append-nil}
-use Rattle.pmp_import.specs.declared.fault.ImportFault.{ImportFault}
+use Rattle.pmp_text.specs.declared.fault.Fault.{Fault}
 use Rattle.pmp_import.specs.declared.format.Format.{Format}
 use Rattle.pmp_import.specs.declared.given.Given.{Given}
 use Rattle.pmp_import.specs.declared.given.Walk.{Walk}
@@ -21,7 +21,7 @@ known format options lines survey finds =
     let is : surveyed format options.hart lines ≡ Ok survey =
     ap (surveyed format options.hart) (sym (append-nil lines)) ∙ finds.finds_on [] in rw (is, given_by) refl
 
-pub unknown : (format : Format) (options : Options) (lines : List (List ℕ)) (fault : ImportFault)
+pub unknown : (format : Format) (options : Options) (lines : List (List ℕ)) (fault : Fault)
     → FindsFault format (nothing_found options.hart) lines fault → given_by format options lines ≡ Err fault
 unknown format options lines fault stops =
     let is : surveyed format options.hart lines ≡ Err fault =
@@ -41,24 +41,24 @@ module _ (format : Format) (options : Options) (lines : List (List ℕ)) (given 
     appended = appends.appended;
   }
 
-  pub gives_none : (fault : ImportFault) → HasNoScript given lines fault → GivesNone format options lines fault
+  pub gives_none : (fault : Fault) → HasNoScript given lines fault → GivesNone format options lines fault
   gives_none fault (inl memory) = inl memory
   gives_none fault (inr none) = inr (by_given ∙ none)
 
 module _ (given : Given) (lines : List (List ℕ)) where
-  pub stops_first : (fault : ImportFault) → StopsAt given beginning lines fault → HasNoScript given lines fault
+  pub stops_first : (fault : Fault) → StopsAt given beginning lines fault → HasNoScript given lines fault
   stops_first fault (inl memory) = inl memory
   stops_first fault (inr stops) = inr (ap (with_front (head_text given))
       (ap (imported_from given beginning) (sym (append-nil lines)) ∙ stops []))
 
   module _ (walk : Walk) (head all : List ℕ) (reads : GoesOn given beginning walk lines head all) where
-    read : (rest : Result (List ℕ) ImportFault) → imported_from given walk [] ≡ rest
+    read : (rest : Result (List ℕ) Fault) → imported_from given walk [] ≡ rest
         → imported given lines ≡ with_front (head_text given) (with_front reads.text rest)
     read rest is = ap (with_front (head_text given))
         (ap (imported_from given beginning) (sym (append-nil lines)) ∙ reads.goes_on []
         ∙ ap (with_front reads.text) is)
 
-    pub stops_last : (fault : ImportFault) → StopsAtEnd given walk fault → HasNoScript given lines fault
+    pub stops_last : (fault : Fault) → StopsAtEnd given walk fault → HasNoScript given lines fault
     stops_last fault (inl memory) = inl memory
     stops_last fault (inr stops) = inr (read (Err fault) stops)
 

@@ -4,7 +4,7 @@ use Rattle.std.proofs.Common.{sym, ap, ◌∙◌, append_assoc, append-nil, arit
 use Rattle.std.proofs.lemmas.List.{length-append}
 use Rattle.pmp_text.specs.declared.refusal.Refusal.{Refusal}
 use Rattle.pmp_text.specs.declared.refusal.Refusal.TheVariants.{NoHart}
-use Rattle.pmp_import.specs.declared.fault.ImportFault.{ImportFault}
+use Rattle.pmp_text.specs.declared.fault.Fault.{Fault}
 use Rattle.pmp_import.specs.declared.given.Given.{Given}
 use Rattle.pmp_import.specs.declared.given.Walk.{Walk}
 use Rattle.pmp_import.specs.declared.said.Said.{Said}
@@ -17,22 +17,23 @@ use Rattle.pmp_import.specs.declared.format.Format.{Format}
 use Rattle.pmp_import.specs.declared.survey.Survey.{Survey}
 use Rattle.pmp_import.specs.Steps.{FindsOn, GoesOn}
 use Rattle.pmp_import.specs.Surveys.{behind_line, one_more, surveyed_from}
+use Rattle.pmp_text.specs.FaultPlaces.{number_in}
 
-pub with_both : (one other : List ℕ) (read : Result (List ℕ) ImportFault)
+pub with_both : (one other : List ℕ) (read : Result (List ℕ) Fault)
     → with_front one (with_front other read) ≡ with_front (one ++ other) read
 with_both one other (Ok text) = ap Ok (sym (append_assoc one other text))
 with_both one other (Err fault) = refl
 
-with_none : (read : Result (List ℕ) ImportFault) → read ≡ with_front [] read
+with_none : (read : Result (List ℕ) Fault) → read ≡ with_front [] read
 with_none (Ok text) = refl
 with_none (Err fault) = refl
 
 -- the end of a log is no line's fault
-pub of_no_line : (found : Bool) (front text : List ℕ) (fault : ImportFault)
-    → with_front front (cond found (Ok text) (Err (at 0 NoHart))) ≡ Err fault → fault.line ≡ 0
+pub of_no_line : (found : Bool) (front text : List ℕ) (fault : Fault)
+    → with_front front (cond found (Ok text) (Err (at 0 NoHart))) ≡ Err fault → number_in fault.place ≡ 0
 of_no_line true front text fault e = absurd cc
 of_no_line false front text fault e =
-    let same : at 0 NoHart ≡ fault = cc in ap (λ (it : ImportFault). it.line) (sym same)
+    let same : at 0 NoHart ≡ fault = cc in ap (λ (it : Fault). number_in it.place) (sym same)
 
 -- ---- the numbers of lines
 
@@ -56,7 +57,7 @@ module _ (given : Given) (walk : Walk) where
 
   -- ---- one line
 
-  abbrev imported_by : (more : List (List ℕ)) → Result Said Refusal → Result (List ℕ) ImportFault
+  abbrev imported_by : (more : List (List ℕ)) → Result Said Refusal → Result (List ℕ) Fault
   imported_by more (Ok said) =
       with_front (said_text given walk said) (imported_from given (Imported.behind_said given walk said) more)
   imported_by more (Err refusal) = Err (at walk.line refusal)
@@ -115,7 +116,7 @@ module _ (format : Format) where
   pub finds_none : (survey : Survey) → FindsOn format survey survey []
   finds_none survey = record { finds_on = λ more. refl; counted = λ count here. omega arith }
 
-  abbrev surveyed_by : (survey : Survey) (more : List (List ℕ)) → Result Said Refusal → Result Survey ImportFault
+  abbrev surveyed_by : (survey : Survey) (more : List (List ℕ)) → Result Said Refusal → Result Survey Fault
   surveyed_by survey more (Ok said) = surveyed_from format (behind_line survey said) more
   surveyed_by survey more (Err refusal) = Err (at survey.line refusal)
 

@@ -8,7 +8,7 @@ use Rattle.std.specs.Option.{option_or}
 use Rattle.std.proofs.lemmas.Bool.{eqb-true, eq-eqb}
 use Rattle.pmp_text.specs.declared.refusal.Refusal.{Refusal}
 use Rattle.pmp_text.specs.declared.refusal.Refusal.TheVariants.{BadNumber, NoHart, OddCfg}
-use Rattle.pmp_import.specs.declared.fault.ImportFault.{ImportFault}
+use Rattle.pmp_text.specs.declared.fault.Fault.{Fault}
 use Rattle.pmp_import.specs.declared.format.Format.{Format}
 use Rattle.pmp_import.specs.declared.given.Given.{Given}
 use Rattle.pmp_import.specs.declared.given.Walk.{Walk}
@@ -69,7 +69,7 @@ module _ (format : Format) where
   by_line : (survey final : Survey) (more : List (List ℕ)) (read : Result Said Refusal)
       → ((said : Said) → surveyed_from format (behind_line survey said) more ≡ Ok final
       → Grows (behind_line survey said) final)
-      → ◌≡◌ {A = Result Survey ImportFault} (elim read [
+      → ◌≡◌ {A = Result Survey Fault} (elim read [
         | Ok said ↦ surveyed_from format (behind_line survey said) more
         | Err refusal ↦ Err (at survey.line refusal)
       ]) (Ok final) → Grows survey final
@@ -231,7 +231,7 @@ module _ (given : Given) (final : Survey) (fine : IsFine given final) where
 
   -- ---- all lines
 
-  front_ok : (front : List ℕ) (read : Result (List ℕ) ImportFault) → IsOk read → IsOk (with_front front read)
+  front_ok : (front : List ℕ) (read : Result (List ℕ) Fault) → IsOk read → IsOk (with_front front read)
   front_ok front (Ok text) ok = ok
   front_ok front (Err fault) ok = ok
 
@@ -244,7 +244,7 @@ module _ (given : Given) (final : Survey) (fine : IsFine given final) where
   checked walk (Ok said) = unless (line_fault given walk said) said
   checked walk (Err refusal) = Err refusal
 
-  abbrev outcome : Walk → List (List ℕ) → Result Said Refusal → Result (List ℕ) ImportFault
+  abbrev outcome : Walk → List (List ℕ) → Result Said Refusal → Result (List ℕ) Fault
   outcome walk more (Ok said) = with_front (said_text given walk said)
       (imported_from given (Imported.behind_said given walk said) more)
   outcome walk more (Err refusal) = Err (at walk.line refusal)
@@ -252,7 +252,7 @@ module _ (given : Given) (final : Survey) (fine : IsFine given final) where
   by_said : (survey : Survey) (walk : Walk) (more : List (List ℕ)) (read : Result Said Refusal)
       → ((said : Said) → surveyed_from given.format (behind_line survey said) more ≡ Ok final
       → (line_fault given walk said ≡ None) × IsOk (imported_from given (Imported.behind_said given walk said) more))
-      → ◌≡◌ {A = Result Survey ImportFault} (elim read [
+      → ◌≡◌ {A = Result Survey Fault} (elim read [
         | Ok said ↦ surveyed_from given.format (behind_line survey said) more
         | Err refusal ↦ Err (at survey.line refusal)
       ]) (Ok final)
@@ -276,7 +276,7 @@ module _ (given : Given) (final : Survey) (fine : IsFine given final) where
 
 -- ---- what is given
 
-none_of : (f : ℕ → ImportFault) (first : Option ℕ) (rest : Option ImportFault)
+none_of : (f : ℕ → Fault) (first : Option ℕ) (rest : Option Fault)
     → option_or (option_map f first) rest ≡ None → (first ≡ None) × (rest ≡ None)
 none_of f None rest e = (refl, e)
 none_of f (Some line) rest e = absurd cc
@@ -299,7 +299,7 @@ module _ (survey : Survey) (given : Given) (hart : given.hart ≡ unwrap_or surv
     own = some_own survey.own own;
   }
 
-by_fault : (survey : Survey) (made given : Given) (lines : List (List ℕ)) (fault : Option ImportFault)
+by_fault : (survey : Survey) (made given : Given) (lines : List (List ℕ)) (fault : Option Fault)
     → survey_fault made.is_rv32 survey ≡ fault → made.hart ≡ unwrap_or survey.hart 0 → (hart : Option ℕ)
     → surveyed made.format hart lines ≡ Ok survey → given_unless fault made ≡ Ok given
     → IsOk (imported given lines)

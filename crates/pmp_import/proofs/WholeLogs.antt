@@ -10,7 +10,7 @@ use Rattle.pmp_text.specs.Bytes.{AppendsBeginning}
 use Rattle.pmp_text.specs.Cutting.{AreLines, IsLast, IsLineCut}
 use Rattle.pmp_text.specs.Inputs.{refusal_of_input}
 use Rattle.pmp_text.specs.Lines.{lines}
-use Rattle.pmp_import.specs.declared.fault.ImportFault.{ImportFault}
+use Rattle.pmp_text.specs.declared.fault.Fault.{Fault}
 use Rattle.pmp_import.specs.declared.given.Given.{Given}
 use Rattle.pmp_import.specs.declared.given.Walk.{Walk}
 use Rattle.pmp_import.specs.declared.whole_log.TheConstants.{MOST_LINES}
@@ -23,6 +23,7 @@ use Rattle.pmp_import.specs.Surveys.{one_more}
 use Rattle.pmp_import.proofs.KnownLogs.{Bytes, Stopped, Taken, any_time, count_stops, cut_stops, last_lines, last_log}
 use Rattle.pmp_import.proofs.KnownLogs.{last_stops, no_lines, none_taken, one_taken, piece_stops}
 use Rattle.pmp_import.proofs.Readings.{goes_further, goes_none, of_no_line, with_both}
+use Rattle.pmp_text.specs.Outcomes as outcome
 
 -- so many pieces were read, these bytes are held of what follows, and this text isn't written yet
 pub record Going (given : Given) (count : ℕ) (had mid : Bytes) (held : List ℕ) (out_old out_new : Bytes)
@@ -47,13 +48,13 @@ going_begins given had held out text walk none head begins = record {
 }
 
 -- nothing was read, for lack of memory
-pub cant_begin : (given : Given) (had out : Bytes) → CantImport given had out out (at 0 Memory)
+pub cant_begin : (given : Given) (had out : Bytes) → CantImport given had out out outcome.no_memory
 cant_begin given had out =
-    let stopped = any_time (none_taken had [] refl) (imported given) (at 0 Memory) (λ log. no_memory) in record {
+    let stopped = any_time (none_taken had [] refl) (imported given) outcome.no_memory (λ log. no_memory) in record {
       log = stopped.log;
       is_log = stopped.is_log;
       stops = stopped.stops;
-      wrote = nothing (at 0 Memory) (Keeps-refl out);
+      wrote = nothing outcome.no_memory (Keeps-refl out);
     }
 
 -- ---- what was written
@@ -75,7 +76,7 @@ module _ (given : Given) (log front : List ℕ) (behind : List (List ℕ)) (log_
   is_front text gives = record { front = lines front; behind = behind; log_has = log_has; gives = gives }
 
   -- a part of what these lines give was written: none, or all
-  wrote_part : (fault : ImportFault) (old new : Bytes) (part text : List ℕ) → Appends old new part
+  wrote_part : (fault : Fault) (old new : Bytes) (part text : List ℕ) → Appends old new part
       → part ++ text ≡ front_text given (lines front) → (part ≡ []) ⊎ (text ≡ [])
       → WroteFront given log old new fault
   wrote_part fault old new part text written all (inl none) =
@@ -88,7 +89,7 @@ module _ {given : Given} {count : ℕ} {had mid : Bytes} {held : List ℕ} {out_
   abbrev going_script : List ℕ
   going_script = going.part ++ text
 
-  stops_here : (fault : ImportFault) → Stopped (imported given) had going.done fault
+  stops_here : (fault : Fault) → Stopped (imported given) had going.done fault
       → CantImport given had out_old out_mid fault
   stops_here fault stopped = record {
     log = stopped.log;
@@ -125,8 +126,8 @@ module _ {given : Given} {count : ℕ} {had mid : Bytes} {held : List ℕ} {out_
 
   pub stops_at_cut : (new : Bytes) (fault : InputFault) (left : List ℕ)
       → IsLineCut MOST_LINES held mid new left (Err fault)
-      → CantImport given had out_old out_mid (stop_at walk.line (refusal_of_input fault))
-  stops_at_cut new fault left cut = stops_here (stop_at walk.line (refusal_of_input fault))
+      → CantImport given had out_old out_mid (stop_at walk.line fault)
+  stops_at_cut new fault left cut = stops_here (stop_at walk.line fault)
       (cut_stops going.taken (imported given) new walk.line fault left are_fine next_line cut)
 
   pub stops_at_count : 2 ^ 64 - 1 ≤ count → CantImport given had out_old out_mid (at walk.line TooLong)
@@ -135,8 +136,8 @@ module _ {given : Given} {count : ℕ} {had mid : Bytes} {held : List ℕ} {out_
 
   -- ---- some lines
 
-  stops_in : (piece : List ℕ) (fault : ImportFault) (more : List (List ℕ)) → StopsAt given walk (lines piece) fault
-      → (fault ≡ at 0 Memory) ⊎ (imported given (lines going.done ++ (lines piece ++ more)) ≡ Err fault)
+  stops_in : (piece : List ℕ) (fault : Fault) (more : List (List ℕ)) → StopsAt given walk (lines piece) fault
+      → (fault ≡ outcome.no_memory) ⊎ (imported given (lines going.done ++ (lines piece ++ more)) ≡ Err fault)
   stops_in piece fault more (inl memory) = inl memory
   stops_in piece fault more (inr stop) =
       inr (imported_on (lines piece ++ more) ∙ ap (with_front going_script) (stop more))
@@ -168,9 +169,9 @@ module _ {given : Given} {count : ℕ} {had mid : Bytes} {held : List ℕ} {out_
 
     -- a prefix of what these lines give was written
     pub cant_write : {later : Walk} {after : List ℕ} (out_new : Bytes) → GoesOn given walk later (lines piece) text after
-        → AppendsBeginning out_mid out_new after → CantImport given had out_old out_new (at 0 Output)
+        → AppendsBeginning out_mid out_new after → CantImport given had out_old out_new outcome.no_output
     cant_write {later = later} {after = after} out_new reads wrote =
-        let stopped = any_time (one_taken going.taken piece cut) (imported given) (at 0 Output) (λ log. no_output) in
+        let stopped = any_time (one_taken going.taken piece cut) (imported given) outcome.no_output (λ log. no_output) in
         record {
           log = stopped.log;
           is_log = stopped.is_log;
@@ -181,7 +182,7 @@ module _ {given : Given} {count : ℕ} {had mid : Bytes} {held : List ℕ} {out_
               (begins out_new after wrote);
         }
 
-    pub stops_at : (fault : ImportFault) → StopsAt given walk (lines piece) fault
+    pub stops_at : (fault : Fault) → StopsAt given walk (lines piece) fault
         → CantImport given had out_old out_mid fault
     stops_at fault stop =
         stops_here fault (piece_stops going.taken piece cut (imported given) fault (stops_in piece fault _ stop))
@@ -189,19 +190,19 @@ module _ {given : Given} {count : ℕ} {had mid : Bytes} {held : List ℕ} {out_
   -- ---- the last lines
 
   module _ {new : Bytes} (piece : List ℕ) (cut : IsLast MOST_LINES held mid new piece) where
-    pub stops_at_last : (fault : ImportFault) → StopsAt given walk (lines piece) fault
+    pub stops_at_last : (fault : Fault) → StopsAt given walk (lines piece) fault
         → CantImport given had out_old out_mid fault
     stops_at_last fault stop =
         stops_here fault (last_stops going.taken piece cut (imported given) fault (stops_in piece fault [] stop))
 
     module _ {later : Walk} {between : List ℕ} (reads : GoesOn given walk later (lines piece) text between) where
-      all_lines : (rest : Result (List ℕ) ImportFault) → imported_from given later [] ≡ rest
+      all_lines : (rest : Result (List ℕ) Fault) → imported_from given later [] ≡ rest
           → imported given (lines going.done ++ (lines piece ++ []))
           ≡ with_front going_script (with_front reads.text rest)
       all_lines rest is = imported_on (lines piece ++ []) ∙ ap (with_front going_script) (reads.goes_on []
           ∙ ap (with_front reads.text) is)
 
-      pub stops_at_end : (fault : ImportFault) → StopsAtEnd given later fault
+      pub stops_at_end : (fault : Fault) → StopsAtEnd given later fault
           → CantImport given had out_old out_mid fault
       stops_at_end fault (inl memory) =
           stops_here fault (last_stops going.taken piece cut (imported given) fault (inl memory))
@@ -227,7 +228,7 @@ module _ {given : Given} {count : ℕ} {had mid : Bytes} {held : List ℕ} {out_
 
       -- a prefix of the script was written
       pub cant_write_last : {after : List ℕ} (out_new : Bytes) → EndsWith given later between after
-          → AppendsBeginning out_mid out_new after → CantImport given had out_old out_new (at 0 Output)
+          → AppendsBeginning out_mid out_new after → CantImport given had out_old out_new outcome.no_output
       cant_write_last {after = after} out_new end wrote = record {
         log = going.done ++ piece;
         is_log = last_log going.taken piece cut;

@@ -6,7 +6,7 @@ use Rattle.pmp_text.specs.declared.refusal.Refusal.TheVariants.{TooLong}
 use Rattle.pmp_text.specs.Cutting.{AreLines, IsLast, IsLineCut}
 use Rattle.pmp_text.specs.Inputs.{refusal_of_input}
 use Rattle.pmp_text.specs.Lines.{lines}
-use Rattle.pmp_import.specs.declared.fault.ImportFault.{ImportFault}
+use Rattle.pmp_text.specs.declared.fault.Fault.{Fault}
 use Rattle.pmp_import.specs.declared.format.Format.{Format}
 use Rattle.pmp_import.specs.declared.survey.Survey.{Survey}
 use Rattle.pmp_import.specs.declared.whole_log.TheConstants.{MOST_LINES}
@@ -34,13 +34,13 @@ looking_begins format hart had held survey none begins = record {
   finds = rw (no_lines, begins) (finds_none format (nothing_found hart));
 }
 
-cant_survey : {format : Format} {hart : Option ℕ} {had : Bytes} {done : List ℕ} {fault : ImportFault}
+cant_survey : {format : Format} {hart : Option ℕ} {had : Bytes} {done : List ℕ} {fault : Fault}
     → Stopped (surveyed format hart) had done fault → CantSurvey format hart had fault
 cant_survey stopped = record { log = stopped.log; is_log = stopped.is_log; stops = stopped.stops }
 
 module _ {format : Format} {hart : Option ℕ} {count : ℕ} {had mid : Bytes} {held : List ℕ} {survey : Survey}
     (looking : Looking format hart count had mid held survey) where
-  stops_in : (piece : List ℕ) (fault : ImportFault) → FindsFault format survey (lines piece) fault
+  stops_in : (piece : List ℕ) (fault : Fault) → FindsFault format survey (lines piece) fault
       → (more : List (List ℕ)) → surveyed format hart (lines looking.done ++ (lines piece ++ more)) ≡ Err fault
   stops_in piece fault stop more = looking.finds.finds_on (lines piece ++ more) ∙ stop more
 
@@ -56,7 +56,7 @@ module _ {format : Format} {hart : Option ℕ} {count : ℕ} {had mid : Bytes} {
 
   pub cut_fault : (new : Bytes) (fault : InputFault) (left : List ℕ)
       → IsLineCut MOST_LINES held mid new left (Err fault)
-      → CantSurvey format hart had (stop_at survey.line (refusal_of_input fault))
+      → CantSurvey format hart had (stop_at survey.line fault)
   cut_fault new fault left cut =
       cant_survey (cut_stops looking.taken (surveyed format hart) new survey.line fault left are_fine next_line cut)
 
@@ -74,7 +74,7 @@ module _ {format : Format} {hart : Option ℕ} {count : ℕ} {had mid : Bytes} {
       finds = rw (looking.taken.whole.apart piece) (finds_further format looking.finds finds);
     }
 
-    pub fault_at : (fault : ImportFault) → FindsFault format survey (lines piece) fault
+    pub fault_at : (fault : Fault) → FindsFault format survey (lines piece) fault
         → CantSurvey format hart had fault
     fault_at fault stop = cant_survey
         (piece_stops looking.taken piece cut (surveyed format hart) fault (inr (stops_in piece fault stop _)))
@@ -82,7 +82,7 @@ module _ {format : Format} {hart : Option ℕ} {count : ℕ} {had mid : Bytes} {
   -- ---- the last lines
 
   module _ {new : Bytes} (piece : List ℕ) (cut : IsLast MOST_LINES held mid new piece) where
-    pub fault_at_last : (fault : ImportFault) → FindsFault format survey (lines piece) fault
+    pub fault_at_last : (fault : Fault) → FindsFault format survey (lines piece) fault
         → CantSurvey format hart had fault
     fault_at_last fault stop = cant_survey
         (last_stops looking.taken piece cut (surveyed format hart) fault (inr (stops_in piece fault stop [])))

@@ -9,7 +9,12 @@ use Rattle.pmp_text.specs.declared.refusal.Refusal.{Refusal}
 use Rattle.pmp_text.specs.declared.refusal.Refusal.TheVariants.{BadNumber, NoHart, OddCfg, TooLong}
 use Rattle.pmp_text.specs.GivenBack.{hart_line}
 use Rattle.pmp_text.specs.Names.{register_name}
-use Rattle.pmp_import.specs.declared.fault.ImportFault.{ImportFault}
+use Rattle.pmp_text.specs.declared.fault.Fault.{Fault}
+use Rattle.pmp_text.specs.declared.fault.Source.TheVariants as source
+use Rattle.pmp_text.specs.declared.input.InputFault.{InputFault}
+use Rattle.pmp_text.specs.declared.input.InputFault.TheVariants as input
+use Rattle.pmp_text.specs.Flaws.{as_whole, at_row}
+use Rattle.pmp_text.specs.Inputs.{input_fault}
 use Rattle.pmp_import.specs.declared.given.Given.{Given}
 use Rattle.pmp_import.specs.declared.given.Walk.{Walk}
 use Rattle.pmp_import.specs.declared.said.How.{How}
@@ -191,20 +196,21 @@ line_of given walk line = elim (line_said given.format line) [
   | Err refusal ↦ Err refusal
 ]
 
-abbrev pub at : (line : ℕ) → Refusal → ImportFault
-at line refusal = record { kind = refusal; line = line }
+-- the fault of a line, or of no line if that is 0
+abbrev pub at : (line : ℕ) → Refusal → Fault
+at line refusal = at_row source.Log line (as_whole refusal)
 
 -- no more lines can be read: if one is too long, it is the next one
-abbrev pub stop_at : (line : ℕ) → Refusal → ImportFault
-stop_at line TooLong = at line TooLong
-stop_at line refusal = at 0 refusal
+abbrev pub stop_at : (line : ℕ) → InputFault → Fault
+stop_at line input.TooLong = at line TooLong
+stop_at line fault = input_fault source.Log fault
 
-abbrev pub with_front : (front : List ℕ) → Result (List ℕ) ImportFault → Result (List ℕ) ImportFault
+abbrev pub with_front : (front : List ℕ) → Result (List ℕ) Fault → Result (List ℕ) Fault
 with_front front (Ok text) = Ok (front ++ text)
 with_front front (Err fault) = Err fault
 
 -- what the remaining lines give, or the first fault
-abbrev pub imported_from : Given → Walk → List (List ℕ) → Result (List ℕ) ImportFault
+abbrev pub imported_from : Given → Walk → List (List ℕ) → Result (List ℕ) Fault
 imported_from given walk [] = if walk.is_found then Ok (publish_if (is_open walk)) else Err (at 0 NoHart)
 imported_from given walk (line ∷ more) = elim (line_of given walk line) [
   | Ok said ↦ with_front (said_text given walk said) (imported_from given (behind_said given walk said) more)
@@ -224,7 +230,7 @@ abbrev pub beginning : Walk
 beginning = record { line = 1; reset = 1; pending = 0; is_used = false; is_found = false; shown = 0 }
 
 -- the script of a log with these lines
-abbrev pub imported : Given → List (List ℕ) → Result (List ℕ) ImportFault
+abbrev pub imported : Given → List (List ℕ) → Result (List ℕ) Fault
 imported given lines = with_front (head_text given) (imported_from given beginning lines)
 
 -- what the first lines of a log give: the head, and the script lines for each, up to the first one at fault

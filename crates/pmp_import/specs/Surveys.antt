@@ -7,7 +7,7 @@ use Rattle.std.specs.Option.{option_or}
 use Rattle.pmp_core.specs.declared.csr.Csr.{Csr}
 use Rattle.pmp_core.specs.declared.csr.Csr.TheVariants.{Cfg, Addr}
 use Rattle.pmp_text.specs.declared.refusal.Refusal.TheVariants.{BadNumber, NoHart, OddCfg}
-use Rattle.pmp_import.specs.declared.fault.ImportFault.{ImportFault}
+use Rattle.pmp_text.specs.declared.fault.Fault.{Fault}
 use Rattle.pmp_import.specs.declared.format.Format.{Format}
 use Rattle.pmp_import.specs.declared.given.Given.{Given}
 use Rattle.pmp_import.specs.declared.options.Options.{Options}
@@ -85,7 +85,7 @@ behind_said survey Nothing = record survey { others = one_more survey.others }
 abbrev pub behind_line : Survey → Said → Survey
 behind_line survey said = record (behind_said survey said) { line = one_more survey.line }
 
-abbrev pub surveyed_from : Format → Survey → List (List ℕ) → Result Survey ImportFault
+abbrev pub surveyed_from : Format → Survey → List (List ℕ) → Result Survey Fault
 surveyed_from format survey [] = Ok survey
 surveyed_from format survey (line ∷ more) = elim (line_said format line) [
   | Ok said ↦ surveyed_from format (behind_line survey said) more
@@ -108,13 +108,13 @@ nothing_found hart = record {
 }
 
 -- the survey of a log with these lines
-abbrev pub surveyed : Format → (hart : Option ℕ) → List (List ℕ) → Result Survey ImportFault
+abbrev pub surveyed : Format → (hart : Option ℕ) → List (List ℕ) → Result Survey Fault
 surveyed format hart lines = surveyed_from format (nothing_found hart) lines
 
 -- ---- what is given for the script
 
 -- an RV32 hart has no value above 2^32 - 1, and an RV64 hart no register that only RV32 has; a log must show its hart
-abbrev pub survey_fault : (is_rv32 : Bool) → Survey → Option ImportFault
+abbrev pub survey_fault : (is_rv32 : Bool) → Survey → Option Fault
 survey_fault is_rv32 survey = option_or
     (elim is_rv32 [
       | true ↦ option_map (λ line. at line BadNumber) survey.wide
@@ -139,12 +139,12 @@ abbrev pub given_alone : Format → Options → Given
 given_alone format options = given_of format options (unwrap_or options.hart 0) (unwrap_or options.is_rv32 false)
     (unwrap_or options.entries 16)
 
-abbrev pub given_unless : Option ImportFault → Given → Result Given ImportFault
+abbrev pub given_unless : Option Fault → Given → Result Given Fault
 given_unless None given = Ok given
 given_unless (Some fault) given = Err fault
 
 -- for a log that was surveyed
-abbrev pub given_for : Format → Options → Survey → Result Given ImportFault
+abbrev pub given_for : Format → Options → Survey → Result Given Fault
 given_for format options survey =
     let is_rv32 = unwrap_or options.is_rv32 (is_some survey.of_rv32) in
     given_unless (survey_fault is_rv32 survey) (given_of format options (unwrap_or survey.hart 0) is_rv32

@@ -6,11 +6,11 @@ ghost use Rattle.pmp_text.specs.Lines.{lines};
 ghost use Rattle.pmp_import.specs.Imported.{at, beginning, foreign, head_text, line_fault, line_of};
 ghost use Rattle.pmp_import.specs.Steps.{EndsWith, GoesOn, HasGrown, StopsAt, StopsAtEnd};
 
-use crate::fault::ImportFault;
+use crate::fault::at;
 use crate::given::{Given, Walk};
 use crate::lines::{Head, SaidLines, publish_if};
 use crate::said::{Said, Told};
-use pmp_text::{Refusal, Sink, append_line, split_first_line};
+use pmp_text::{Fault, Refusal, Sink, append_line, split_first_line};
 use std::alloc::AllocError;
 
 /// The script of a log, made line by line, and appended to a text.
@@ -42,7 +42,7 @@ impl Importer {
 
     /// Appends the result of a line, or nothing.
     #[tactic(auto, using(crate::proofs::Readings::goes_line))]
-    pub fn take_line<S: Sink>(&mut self, out: &mut S, line: &[u8]) -> Result<(), ImportFault>
+    pub fn take_line<S: Sink>(&mut self, out: &mut S, line: &[u8]) -> Result<(), Fault>
         ensures given { self.new.given ≡ self.old.given }
         ensures ok { OnOk result (GoesOn self.old.given self.old.walk self.new.walk (line.now ∷ [])
             (S.text out.old) (S.text out.new)) }
@@ -57,19 +57,18 @@ impl Importer {
     }
 
     /// Returns what a line says.
-    fn read_line(&self, line: &[u8]) -> Result<Said, ImportFault>
+    fn read_line(&self, line: &[u8]) -> Result<Said, Fault>
         ensures ok { IfOk result (λ said. line_of self.now.given self.now.walk line.now ≡ Ok said) }
         ensures err { IfErr result (λ fault. (refusal : Refusal) × (fault ≡ at self.now.walk.line refusal)
             × (line_of self.now.given self.now.walk line.now ≡ Err refusal)) }
     {
         let number = self.walk.line;
-        let said = self
-            .given
-            .format
-            .read(line)
-            .map_err(|kind| ImportFault::at(number, kind))?;
+        let said = match self.given.format.read(line) {
+            Ok(said) => said,
+            Err(kind) => return Err(at(number, kind)),
+        };
         match self.line_fault(said) {
-            Some(kind) => Err(ImportFault::at(number, kind)),
+            Some(kind) => Err(at(number, kind)),
             None => Ok(said),
         }
     }
@@ -87,7 +86,7 @@ impl Importer {
     }
 
     /// Appends the results of the lines of a text, up to the first fault.
-    pub fn take_lines<S: Sink>(&mut self, out: &mut S, text: &[u8]) -> Result<(), ImportFault>
+    pub fn take_lines<S: Sink>(&mut self, out: &mut S, text: &[u8]) -> Result<(), Fault>
         ensures given { self.new.given ≡ self.old.given }
         ensures ok { OnOk result (GoesOn self.old.given self.old.walk self.new.walk (lines text.now)
             (S.text out.old) (S.text out.new)) }
@@ -103,13 +102,13 @@ impl Importer {
     }
 
     /// Appends the result of the end of the log, or nothing.
-    pub fn end<S: Sink>(&self, out: &mut S) -> Result<(), ImportFault>
+    pub fn end<S: Sink>(&self, out: &mut S) -> Result<(), Fault>
         ensures ok { OnOk result (EndsWith self.now.given self.now.walk (S.text out.old) (S.text out.new)) }
         ensures err { IfErr result (StopsAtEnd self.now.given self.now.walk) }
         ensures kept { OnErr result (S.text out.new ≡ S.text out.old) }
     {
         if !self.walk.is_found {
-            return Err(ImportFault::at(0, Refusal::NoHart));
+            return Err(at(0, Refusal::NoHart));
         }
         Ok(append_line(out, publish_if(self.walk.is_open()))?)
     }

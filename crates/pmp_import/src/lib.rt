@@ -16,7 +16,6 @@ mod spike;
 mod survey;
 mod whole_log;
 
-pub use fault::ImportFault;
 pub use format::Format;
 pub use given::Given;
 pub use log_text::append_import;

@@ -5,16 +5,15 @@ ghost use Rattle.pmp_text.specs.Lines.{lines};
 ghost use Rattle.pmp_import.specs.LogTexts.{GivesNone, IsScriptOf, given_by};
 ghost use Rattle.pmp_import.specs.Steps.{AppendsScript, HasGrown, HasNoScript};
 
-use crate::fault::ImportFault;
 use crate::format::Format;
 use crate::given::Given;
 use crate::importer::Importer;
 use crate::options::Options;
 use crate::survey::Survey;
-use pmp_text::Sink;
+use pmp_text::{Fault, Sink};
 
 /// Returns the settings for a log, from its whole text.
-fn given_by(format: Format, options: Options, log: &[u8]) -> Result<Given, ImportFault>
+fn given_by(format: Format, options: Options, log: &[u8]) -> Result<Given, Fault>
     ensures { result ≡ given_by format options (lines log.now) }
 {
     let mut survey = Survey::new(options.hart);
@@ -31,7 +30,7 @@ pub fn append_import<S: Sink>(
     options: Options,
     log: &[u8],
     out: &mut S,
-) -> Result<(), ImportFault>
+) -> Result<(), Fault>
     ensures ok { OnOk result (IsScriptOf format options (lines log.now) (S.text out.old) (S.text out.new)) }
     ensures err { IfErr result (GivesNone format options (lines log.now)) }
     ensures kept { OnErr result (S.text out.new ≡ S.text out.old) }
@@ -46,7 +45,7 @@ pub fn append_import<S: Sink>(
 }
 
 /// Appends the script that a log has with these settings, or a part of it.
-fn append_script<S: Sink>(given: Given, log: &[u8], out: &mut S) -> Result<(), ImportFault>
+fn append_script<S: Sink>(given: Given, log: &[u8], out: &mut S) -> Result<(), Fault>
     ensures ok { OnOk result (AppendsScript given (lines log.now) (S.text out.old) (S.text out.new)) }
     ensures err { IfErr result (HasNoScript given (lines log.now)) }
     ensures grown { OnErr result (HasGrown (S.text out.old) (S.text out.new)) }

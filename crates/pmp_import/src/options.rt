@@ -3,11 +3,11 @@
 ghost use Rattle.std.specs.Prelude.{◌≡◌};
 ghost use Rattle.pmp_import.specs.Surveys.{given_alone, given_for, given_of, survey_fault};
 
-use crate::fault::ImportFault;
+use crate::fault::at;
 use crate::format::Format;
 use crate::given::Given;
 use crate::survey::Survey;
-use pmp_text::Refusal;
+use pmp_text::{Fault, Refusal};
 
 /// The options for a script. What isn't given is guessed from the log.
 #[derive(Clone, Copy)]
@@ -35,7 +35,7 @@ impl Options {
     }
 
     /// Returns the settings for a log with this survey, or why it has no script.
-    pub fn with(self, format: Format, survey: &Survey) -> Result<Given, ImportFault>
+    pub fn with(self, format: Format, survey: &Survey) -> Result<Given, Fault>
         ensures { result ≡ given_for format self survey.now }
     {
         let is_rv32 = self.is_rv32.unwrap_or(survey.of_rv32.is_some());
@@ -64,7 +64,7 @@ impl Options {
 }
 
 /// Returns why a log with this survey has no script.
-fn survey_fault(is_rv32: bool, survey: &Survey) -> Option<ImportFault>
+fn survey_fault(is_rv32: bool, survey: &Survey) -> Option<Fault>
     ensures { result ≡ survey_fault is_rv32 survey.now }
 {
     let (foreign, kind) = if is_rv32 {
@@ -73,8 +73,8 @@ fn survey_fault(is_rv32: bool, survey: &Survey) -> Option<ImportFault>
         (survey.of_rv32, Refusal::OddCfg)
     };
     match foreign {
-        Some(line) => Some(ImportFault::at(line, kind)),
-        None if survey.own == 0 => Some(ImportFault::at(0, Refusal::NoHart)),
+        Some(line) => Some(at(line, kind)),
+        None if survey.own == 0 => Some(at(0, Refusal::NoHart)),
         None => None,
     }
 }

@@ -6,11 +6,11 @@ ghost use Rattle.pmp_import.specs.declared.survey.TheConstants.{COUNTED};
 ghost use Rattle.pmp_import.specs.Steps.{FindsFault, FindsOn};
 ghost use Rattle.pmp_import.specs.Surveys.{first_line, is_high, needs_many};
 
-use crate::fault::ImportFault;
+use crate::fault::at;
 use crate::format::Format;
 use crate::said::{How, Said, Told};
 use pmp_core::Csr;
-use pmp_text::split_first_line;
+use pmp_text::{Fault, split_first_line};
 
 /// The number of harts whose writes are counted: those with the lowest numbers.
 pub const COUNTED: usize = 64;
@@ -138,18 +138,18 @@ impl Survey {
     }
 
     #[tactic(auto, using(crate::proofs::Readings::finds_line))]
-    fn take_line(&mut self, format: Format, line: &[u8]) -> Result<(), ImportFault>
+    fn take_line(&mut self, format: Format, line: &[u8]) -> Result<(), Fault>
         ensures ok { OnOk result (FindsOn format self.old self.new (line.now ∷ [])) }
         ensures err { IfErr result (FindsFault format self.old (line.now ∷ [])) }
     {
         let number = self.line;
         let said = format.read(line);
-        self.take(said.map_err(|refusal| ImportFault::at(number, refusal))?);
+        self.take(said.map_err(|refusal| at(number, refusal))?);
         Ok(())
     }
 
     /// Takes in the lines of a text, up to the first fault.
-    pub fn take_lines(&mut self, format: Format, text: &[u8]) -> Result<(), ImportFault>
+    pub fn take_lines(&mut self, format: Format, text: &[u8]) -> Result<(), Fault>
         ensures ok { OnOk result (FindsOn format self.old self.new (lines text.now)) }
         ensures err { IfErr result (FindsFault format self.old (lines text.now)) }
     {

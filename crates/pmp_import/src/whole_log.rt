@@ -3,12 +3,12 @@
 ghost use Rattle.std.specs.Prelude.{IfErr, IfOk, OnOk};
 ghost use Rattle.pmp_import.specs.Imports.{CantImport, CantSurvey, IsImported, IsSurveyed};
 
-use crate::fault::ImportFault;
+use crate::fault::{at, stop};
 use crate::format::Format;
 use crate::given::Given;
 use crate::importer::Importer;
 use crate::survey::Survey;
-use pmp_text::{Cut, Refusal, cut_lines, write_out};
+use pmp_text::{Cut, Fault, Refusal, cut_lines, write_out};
 use std::alloc::Global;
 use std::io::{Read, Write};
 
@@ -21,7 +21,7 @@ pub fn survey_log<R: Read>(
     format: Format,
     hart: Option<u64>,
     reader: &mut R,
-) -> Result<Survey, ImportFault>
+) -> Result<Survey, Fault>
     ensures ok { IfOk result (IsSurveyed format hart (R.remaining reader.old)) }
     ensures err { IfErr result (CantSurvey format hart (R.remaining reader.old)) }
 {
@@ -34,10 +34,10 @@ pub fn survey_log<R: Read>(
                 survey.take_lines(format, &piece)?;
                 return Ok(survey);
             }
-            Err(fault) => return Err(ImportFault::stop(survey.line, Refusal::from(fault))),
+            Err(fault) => return Err(stop(survey.line, fault)),
         }
     }
-    Err(ImportFault::stop(survey.line, Refusal::TooLong))
+    Err(at(survey.line, Refusal::TooLong))
 }
 
 /// Writes the script of a log of any length, in memory for `MOST_LINES` bytes of it and what they give.
@@ -49,7 +49,7 @@ pub fn import<R: Read, W: Write>(
     given: Given,
     reader: &mut R,
     writer: &mut W,
-) -> Result<(), ImportFault>
+) -> Result<(), Fault>
     ensures ok { OnOk result (IsImported given (R.remaining reader.old) (W.contents writer.old) (W.contents writer.new)) }
     ensures err { IfErr result (CantImport given (R.remaining reader.old) (W.contents writer.old) (W.contents writer.new)) }
 {
@@ -69,8 +69,8 @@ pub fn import<R: Read, W: Write>(
                 importer.end(&mut text)?;
                 return Ok(write_out(writer, &text)?);
             }
-            Err(fault) => return Err(ImportFault::stop(importer.walk.line, Refusal::from(fault))),
+            Err(fault) => return Err(stop(importer.walk.line, fault)),
         }
     }
-    Err(ImportFault::stop(importer.walk.line, Refusal::TooLong))
+    Err(at(importer.walk.line, Refusal::TooLong))
 }

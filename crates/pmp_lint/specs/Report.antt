@@ -3,10 +3,10 @@ use Rattle.std.specs.Prelude.{◌≡◌, ◌⊎◌, ℕ, List, ◌++◌, length,
 use Rattle.std.specs.Option.{option_to_list}
 use Rattle.pmp_map.specs.declared.run.Run.{Run}
 use Rattle.pmp_map.specs.Runs.{AreRuns}
-use Rattle.pmp_text.specs.declared.script.LineFault.{LineFault}
+use Rattle.pmp_text.specs.declared.fault.Fault.{Fault}
 use Rattle.pmp_text.specs.Cells.{RowValue}
 use Rattle.pmp_text.specs.Contents.{ScriptContents}
-use Rattle.pmp_text.specs.Outcomes.{out_of_memory}
+use Rattle.pmp_text.specs.Outcomes.{no_memory}
 use Rattle.pmp_text.specs.Scripts.{script_meaning}
 use Rattle.pmp_lint.specs.declared.finding.Finding.{Finding}
 use Rattle.pmp_lint.specs.EndState.{end_of, mmwp_off, never_decides, of_entries, open_before_locked, rlb_left_on}
@@ -46,8 +46,8 @@ pub record LintSays {A : Type 0} (Adds : List RowValue → A → A → Type 0) (
   pub counted : told ≡ told_count accepted findings
 
 -- the script's own fault, or memory ran out
-abbrev pub LintRefuses : (script : List ℕ) → LineFault → Type 0
-LintRefuses script fault = (script_meaning script ≡ Err fault) ⊎ (fault ≡ out_of_memory)
+abbrev pub LintRefuses : (script : List ℕ) → Fault → Type 0
+LintRefuses script fault = (script_meaning script ≡ Err fault) ⊎ (fault ≡ no_memory)
 
 -- a script has only one list of findings
 abbrev pub OneListOfFindingsLaw : Type 0

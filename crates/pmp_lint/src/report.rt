@@ -13,7 +13,7 @@ use crate::open_between::add_open_between;
 use crate::told::Told;
 use pmp_core::RegFile;
 use pmp_map::{Run, RunMap};
-use pmp_text::{EventLog, LineFault, NoMemory, ReadScript, RowSink, read_script_in};
+use pmp_text::{EventLog, Fault, NoMemory, ReadScript, RowSink, read_script_in};
 
 /// Returns the register file after all publications.
 fn end_of(script: &ReadScript<'_>) -> RegFile
@@ -119,7 +119,7 @@ pub fn add_lint<L: EventLog, R: RowSink>(
     script: &[u8],
     accepted: &[u8],
     out: &mut R,
-) -> Result<usize, LineFault>
+) -> Result<usize, Fault>
     ensures ok { IfOk result (LintSays R.Adds script.now accepted.now out.old out.new) }
     ensures err { IfErr result (LintRefuses script.now) }
     ensures kept { OnErr result (R.Adds [] out.old out.new) }

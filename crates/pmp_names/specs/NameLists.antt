@@ -1,17 +1,16 @@
 -- Names of addresses as the program keeps them.
-use Rattle.std.specs.Prelude.{◌≡◌, ℕ, List, [], ◌∷◌, ◌++◌, map, Option, None, Result, Ok, Err}
-use Rattle.pmp_text.specs.declared.refusal.Refusal.TheVariants.{BadRow, Memory}
+use Rattle.std.specs.Prelude.{◌≡◌, ℕ, List, [], ◌∷◌, ◌++◌, map, Result, Ok, Err}
+use Rattle.pmp_text.specs.Flaws.{at_row}
+use Rattle.pmp_text.specs.declared.fault.Source.TheVariants as source
+use Rattle.pmp_text.specs.declared.flaw.Flaw.{Flaw}
 use Rattle.pmp_text.specs.declared.address_name.AddressName.{AddressName}
-use Rattle.pmp_names.specs.declared.address_names.NamesFault.{NamesFault}
+use Rattle.pmp_text.specs.declared.fault.Fault.{Fault}
 use Rattle.pmp_text.specs.MetNames.{Named, named}
-use Rattle.pmp_names.specs.AddressNames.{Fault, name_said}
+use Rattle.pmp_names.specs.AddressNames.{name_said}
 
-abbrev pub said_so : Result AddressName (Option ℕ) → Result Named Fault
+abbrev pub said_so : Result AddressName Flaw → Result Named Flaw
 said_so (Ok one) = Ok (named one)
-said_so (Err field) = Err field
-
-abbrev pub no_memory : NamesFault
-no_memory = record { refusal = Memory; row = 0; field = None }
+said_so (Err flaw) = Err flaw
 
 -- a line's name joins the names
 pub record AddsName (line : List ℕ) (before after : List AddressName) : Type 0 where
@@ -20,12 +19,12 @@ pub record AddsName (line : List ℕ) (before after : List AddressName) : Type 0
   pub names : map named after ≡ map named before ++ one ∷ []
 
 -- a line of this number gives none
-pub record IsFaultOf (line : List ℕ) (row : ℕ) (fault : NamesFault) : Type 0 where
-  pub field : Fault
-  pub said : name_said line ≡ Err field
-  pub is : fault ≡ record { refusal = BadRow; row = row; field = field }
+pub record IsFaultOf (line : List ℕ) (row : ℕ) (fault : Fault) : Type 0 where
+  pub flaw : Flaw
+  pub said : name_said line ≡ Err flaw
+  pub is : fault ≡ at_row source.Names row flaw
 
 -- names, and then those of the rest
-abbrev pub joined : List Named → Result (List Named) NamesFault → Result (List Named) NamesFault
+abbrev pub joined : List Named → Result (List Named) Fault → Result (List Named) Fault
 joined names (Ok more) = Ok (names ++ more)
 joined names (Err fault) = Err fault

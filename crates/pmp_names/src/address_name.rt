@@ -6,7 +6,7 @@ ghost use Rattle.pmp_names.specs.AddressNames.{begins_as_name, is_name, is_name_
 ghost use Rattle.pmp_names.specs.AddressNames.{name_said, split_comma, split_once};
 ghost use Rattle.pmp_names.specs.NameLists.{said_so};
 
-use pmp_text::{AddressName, read_word_number};
+use pmp_text::{AddressName, Flaw, Refusal, read_word_number};
 
 /// The greatest length of a name in bytes.
 pub const NAME_BYTES: usize = 64;
@@ -57,12 +57,12 @@ pub fn split_comma(line: &[u8]) -> Option<(&[u8], &[u8])>
     split_once(line, b',')
 }
 
-/// Returns the name in a line, or which of its fields is at fault; none if it doesn't have three.
-pub fn read_name<'a>(line: &'a [u8]) -> Result<AddressName<'a>, Option<usize>>
+/// Returns the name in a line, or what is wrong with it: which of its three fields, or the whole line.
+pub fn read_name<'a>(line: &'a [u8]) -> Result<AddressName<'a>, Flaw>
     ensures { said_so result ≡ name_said line.now }
 {
-    let (first, rest) = split_comma(line).ok_or(None)?;
-    let (last, name) = split_comma(rest).ok_or(None)?;
+    let (first, rest) = split_comma(line).ok_or(Refusal::BadRow.whole())?;
+    let (last, name) = split_comma(rest).ok_or(Refusal::BadRow.whole())?;
     name_of_fields(read_word_number(first), read_word_number(last), name)
 }
 
@@ -70,16 +70,16 @@ fn name_of_fields<'a>(
     first: Option<u64>,
     last: Option<u64>,
     name: &'a [u8],
-) -> Result<AddressName<'a>, Option<usize>>
+) -> Result<AddressName<'a>, Flaw>
     ensures { said_so result ≡ name_of_fields first last name.now }
 {
-    let first = first.ok_or(Some(0))?;
-    let last = last.ok_or(Some(1))?;
+    let first = first.ok_or(Refusal::BadRow.part(0))?;
+    let last = last.ok_or(Refusal::BadRow.part(1))?;
     if last < first {
-        return Err(Some(1));
+        return Err(Refusal::BadRow.part(1));
     }
     if !is_name(name) {
-        return Err(Some(2));
+        return Err(Refusal::BadRow.part(2));
     }
     Ok(AddressName { first, last, name })
 }

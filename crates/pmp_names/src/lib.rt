@@ -11,7 +11,7 @@ mod order_key;
 mod whole_rows;
 
 pub use address_name::{is_name, split_comma};
-pub use address_names::{NamesFault, read_names};
+pub use address_names::read_names;
 pub use hart_name::{HART_NAME, HartName};
 pub use harts::{are_same, read_harts};
 pub use named_address::read_address;

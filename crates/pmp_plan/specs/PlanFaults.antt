@@ -1,6 +1,6 @@
 -- Why a plan is refused.
 use Rattle.std.specs.Prelude.{◌≡◌, ◌⊎◌, ℕ, ◌+◌, ◌*◌, ◌/◌, ◌^◌, ◌<◌, ◌≤◌, ◌==◌, Bool, true, false, not, List, [], Some}
-use Rattle.std.specs.Prelude.{◌≢◌, ⊤, All, length, slice_get}
+use Rattle.std.specs.Prelude.{◌≢◌, All, length, slice_get, if◌then◌else◌}
 use Rattle.std.specs.List.{AllPairs, list_all}
 use Rattle.pmp_core.specs.declared.event.Event.{Event}
 use Rattle.pmp_core.specs.declared.hart.Profile.{Profile}
@@ -8,27 +8,34 @@ use Rattle.pmp_core.specs.declared.size.TheConstants.{MAX_ENTRIES}
 use Rattle.pmp_core.specs.Hart.{word_addresses}
 use Rattle.pmp_core.specs.Histories.{is_write, replay}
 use Rattle.pmp_core.specs.RegisterFile.{RegisterFile}
-use Rattle.pmp_text.specs.declared.refusal.Refusal.{Refusal}
-use Rattle.pmp_text.specs.declared.refusal.Refusal.TheVariants as refusal
+use Rattle.pmp_text.specs.declared.refusal.Refusal.TheVariants.{BadPair, FewEntries, NoOrder, NotHeld, Overlap}
+use Rattle.pmp_text.specs.declared.refusal.Refusal.TheVariants.{PastEnd, Stopped, TooFine}
+use Rattle.pmp_text.specs.declared.fault.Place.TheVariants.{PlanEntries, PlanRows}
+use Rattle.pmp_text.specs.declared.flaw.Flaw.{Flaw}
+use Rattle.pmp_text.specs.FaultPlaces.{somewhere}
+use Rattle.pmp_text.specs.Flaws.{as_whole, at_row, part}
+use Rattle.pmp_names.specs.AddressNames.{next_row}
 use Rattle.pmp_plan.specs.declared.aim.Aim.{Aim}
-use Rattle.pmp_plan.specs.declared.fault.PlanFault.{PlanFault}
-use Rattle.pmp_plan.specs.declared.fault.PlanFault.TheVariants as fault
+use Rattle.pmp_text.specs.declared.fault.Fault.{Fault}
 use Rattle.pmp_plan.specs.declared.plan_row.PlanRow.{PlanRow}
 use Rattle.pmp_plan.specs.declared.security.Security.{Security}
 use Rattle.pmp_plan.specs.PlanRules.{HasRule}
 use Rattle.pmp_plan.specs.Plans.{MeetsPlan, is_in, no_security}
 use Rattle.pmp_plan.specs.Routes.{IsPlain, lasting}
+use Rattle.pmp_text.specs.declared.fault.Source.TheVariants as source
 
-abbrev pub refusal_of : PlanFault → Refusal
-refusal_of (fault.Overlap row other) = refusal.Overlap
-refusal_of (fault.TooFine row field) = refusal.TooFine
-refusal_of (fault.PastEnd row) = refusal.PastEnd
-refusal_of (fault.BadPair row) = refusal.BadPair
-refusal_of fault.NotHeld = refusal.NotHeld
-refusal_of (fault.FewEntries found row takes) = refusal.FewEntries
-refusal_of fault.Stopped = refusal.Stopped
-refusal_of fault.NoOrder = refusal.NoOrder
-refusal_of fault.Memory = refusal.Memory
+-- the fault of the row with this index
+abbrev pub in_row : (index : ℕ) → Flaw → Fault
+in_row index flaw = at_row source.Plan (next_row index) flaw
+
+-- of two rows, which have a byte in common
+abbrev pub two_rows : (one other : ℕ) → Fault
+two_rows one other = record { refusal = Overlap; place = PlanRows (next_row one) (next_row other) }
+
+-- of more entries than there are, and the row that takes the most of them, unless it takes none
+abbrev pub too_few : (found index takes : ℕ) → Fault
+too_few found index takes = if takes == 0 then somewhere FewEntries
+    else record { refusal = FewEntries; place = PlanEntries (next_row index) takes found }
 
 -- the row with this index has the byte
 abbrev pub HasByte : List PlanRow → (index byte : ℕ) → Type 0
@@ -52,16 +59,11 @@ pub record AreOverlapping (rows : List PlanRow) (row other : ℕ) : Type 0 where
 abbrev pub is_inside : Profile → (byte : ℕ) → Bool
 is_inside hart byte = let grain = 2 ^ (hart.grain + 2) in not (byte / grain * grain == byte)
 
--- which end of a row is inside a grain: field 0 is the first byte, field 1 the byte after the last
-abbrev pub IsInside : Profile → PlanRow → (field : ℕ) → Type 0
-IsInside hart row field =
-    ((field ≡ 0) × (is_inside hart row.first ≡ true)) ⊎ ((field ≡ 1) × (is_inside hart (row.last + 1) ≡ true))
-
--- what is wrong with the row of this index alone
-abbrev pub IsFlawOf : Profile → (index : ℕ) → PlanRow → PlanFault → Type 0
-IsFlawOf hart index row (fault.TooFine number field) = (number ≡ index) × IsInside hart row field
-IsFlawOf hart index row (fault.PastEnd number) = (number ≡ index) × (word_addresses hart ≤ row.last / 4)
-IsFlawOf hart index row _ = ⊥
+-- the row begins or ends inside a grain, or has bytes above the hart's addresses
+abbrev pub IsUnfit : Profile → PlanRow → Flaw → Type 0
+IsUnfit hart row flaw = ((flaw ≡ part 0 TooFine) × (is_inside hart row.first ≡ true))
+    ⊎ ((flaw ≡ part 1 TooFine) × (is_inside hart (row.last + 1) ≡ true))
+    ⊎ ((flaw ≡ as_whole PastEnd) × (word_addresses hart ≤ row.last / 4))
 
 -- the row begins and ends on the hart's grain boundaries, below the end of its addresses
 pub record IsFit (hart : Profile) (row : PlanRow) : Type 0 where
@@ -91,24 +93,24 @@ abbrev pub NamesRow : Profile → List PlanRow → (found row takes : ℕ) → T
 NamesRow hart rows found row takes =
     (row < length rows) ⊎ ((rows ≡ []) × (hart.entries ≡ 0) × (found ≡ 1) × (takes ≡ 0))
 
--- the rows have this fault; no rule gives what a row asks; the hart has no mseccfg, though a bit of it is asked for; a
--- sound plan takes `found` entries, more than the hart has, a row of it is named, and that many suffice if a hart can
--- have them; or no entries were found for a sound plan with rows. Running out of memory says nothing about the plan
-abbrev pub Refuses : Profile → Security → List PlanRow → PlanFault → Type 0
-Refuses hart security rows (fault.Overlap row other) = AreOverlapping rows row other
-Refuses hart security rows (fault.TooFine number field) =
-    (row : PlanRow) × (slice_get rows number ≡ Some row) × IsInside hart row field
-Refuses hart security rows (fault.PastEnd number) =
-    (row : PlanRow) × (slice_get rows number ≡ Some row) × (word_addresses hart ≤ row.last / 4)
-Refuses hart security rows (fault.BadPair number) =
-    (row : PlanRow) × (slice_get rows number ≡ Some row) × ¬ (HasRule security row.demand)
-Refuses hart security rows fault.NotHeld = (hart.has_smepmp ≡ false) × (security ≢ no_security)
-Refuses hart security rows (fault.FewEntries found row takes) =
-    IsSound hart security rows × (hart.entries < found) × NamesRow hart rows found row takes
-    × (found ≤ MAX_ENTRIES → CanMeet (record hart { entries = found }) security rows)
-Refuses hart security rows fault.Stopped = IsSound hart security rows × (0 < length rows)
-Refuses hart security rows fault.NoOrder = ⊥
-Refuses hart security rows fault.Memory = ⊤
+-- a row is unfit for the hart, or no rule gives what it asks
+abbrev pub IsFlawOf : Profile → Security → PlanRow → Flaw → Type 0
+IsFlawOf hart security row flaw =
+    IsUnfit hart row flaw ⊎ ((flaw ≡ as_whole BadPair) × ¬ (HasRule security row.demand))
+
+-- two rows have a byte in common; a row has a flaw; the hart has no mseccfg, though a bit of it is asked for; a sound
+-- plan takes `found` entries, more than the hart has, a row of it is named, and that many suffice if a hart can have
+-- them; or no entries were found for a sound plan with rows
+pub data Refuses (hart : Profile) (security : Security) (rows : List PlanRow) : Fault → Type 0 where
+  overlap : (one other : ℕ) → AreOverlapping rows one other → Refuses hart security rows (two_rows one other)
+  of_row : (index : ℕ) (row : PlanRow) (flaw : Flaw) → slice_get rows index ≡ Some row
+      → IsFlawOf hart security row flaw → Refuses hart security rows (in_row index flaw)
+  not_held : hart.has_smepmp ≡ false → security ≢ no_security → Refuses hart security rows (somewhere NotHeld)
+  few_entries : (found row takes : ℕ) → IsSound hart security rows → hart.entries < found
+      → NamesRow hart rows found row takes
+      → (found ≤ MAX_ENTRIES → CanMeet (record hart { entries = found }) security rows)
+      → Refuses hart security rows (too_few found row takes)
+  stopped : IsSound hart security rows → 0 < length rows → Refuses hart security rows (somewhere Stopped)
 
 -- no order of writes was found for a sound plan, which the registers don't meet yet; and if they are those of reset, it
 -- has rows, and something is asked of the way
@@ -118,7 +120,7 @@ pub record HasNoOrder (start : RegisterFile) (aim : Aim) (rows : List PlanRow) :
   pub bound : ¬ (IsPlain start aim rows)
 
 -- from these registers: the plan has this fault, or there is no order
-abbrev pub RefusesFrom : RegisterFile → Aim → List PlanRow → PlanFault → Type 0
+abbrev pub RefusesFrom : RegisterFile → Aim → List PlanRow → Fault → Type 0
 RefusesFrom start aim rows why =
     Refuses start.profile (lasting start aim.security) rows why
-    ⊎ ((why ≡ fault.NoOrder) × HasNoOrder start aim rows)
+    ⊎ ((why ≡ somewhere NoOrder) × HasNoOrder start aim rows)

@@ -3,13 +3,10 @@ use Rattle.std.specs.Prelude.{◌≡◌, ◌⊎◌, ℕ, List, Ok, Err, map}
 use Rattle.std.specs.List.{AllPairs}
 use Rattle.pmp_core.specs.RegisterFile.{RegisterFile}
 use Rattle.pmp_text.specs.Contents.{ScriptContents}
-use Rattle.pmp_text.specs.Outcomes.{out_of_memory}
+use Rattle.pmp_text.specs.Outcomes.{no_memory}
 use Rattle.pmp_text.specs.Reports.{file_behind}
 use Rattle.pmp_text.specs.Scripts.{script_meaning}
-use Rattle.pmp_text.specs.declared.script.LineFault.{LineFault}
-use Rattle.pmp_plan.specs.declared.answer.AnswerFault.{AnswerFault}
-use Rattle.pmp_plan.specs.declared.answer.AnswerFault.TheVariants as answer
-use Rattle.pmp_plan.specs.declared.fault.PlanFault.TheVariants.{Memory}
+use Rattle.pmp_text.specs.declared.fault.Fault.{Fault}
 use Rattle.pmp_plan.specs.declared.plan_row.PlanRow.{PlanRow}
 use Rattle.pmp_plan.specs.declared.security.Security.{Security}
 use Rattle.pmp_plan.specs.KeptRows.{said}
@@ -32,16 +29,11 @@ pub record Leaves (script : List ℕ) (file : RegisterFile) : Type 0 where
   pub file_is : file ≡ file_behind contents.start contents.batches
 
 -- the text is no script, or memory ran out
-pub data LeavesNone (script : List ℕ) : AnswerFault → Type 0 where
-  no_script : (fault : LineFault) → script_meaning script ≡ Err fault → LeavesNone script (answer.Script fault)
-  no_memory_for_script : LeavesNone script (answer.Script out_of_memory)
+abbrev pub LeavesNone : (script : List ℕ) → Fault → Type 0
+LeavesNone script fault = (fault ≡ no_memory) ⊎ (script_meaning script ≡ Err fault)
 
 -- the text is a plan of these registers
 pub record IsPlanOfScript (script text : List ℕ) : Type 0 where
   pub file : RegisterFile
   pub left : Leaves script file
   pub plan : IsPlanOf file text
-
--- there are no such registers, or memory ran out
-abbrev pub HasNoPlan : (script : List ℕ) → AnswerFault → Type 0
-HasNoPlan script fault = LeavesNone script fault ⊎ (fault ≡ answer.Plan Memory)

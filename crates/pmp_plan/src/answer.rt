@@ -2,20 +2,17 @@
 
 ghost use Rattle.std.specs.Prelude.{◌≡◌, IfErr, IfOk};
 ghost use Rattle.pmp_plan.specs.PlanAnswers.{IsTold, PlanFails, Tells, Untold};
-ghost use Rattle.pmp_plan.specs.declared.answer.AnswerFault.TheVariants.{Plan, Script, Text};
-ghost use Rattle.pmp_plan.specs.declared.fault.PlanFault.TheVariants.{Memory};
 
 use crate::aim::Aim;
 use crate::array::append_array;
-use crate::fault::PlanFault;
 use crate::leading::plan;
 use crate::level::search_room;
 use crate::plan_row::PlanRow;
 use crate::reading::read_plan;
 use crate::script::append_script;
 use pmp_core::RegFile;
-use pmp_text::{LineFault, MAX_SCRIPT, Refusal, RowFault};
-use std::alloc::{AllocError, Global};
+use pmp_text::{Fault, MAX_SCRIPT, Refusal, Source};
+use std::alloc::Global;
 
 /// The output format of writes.
 #[derive(Clone, Copy, Debug, PartialEq, Eq)]
@@ -24,49 +21,6 @@ pub enum Form {
     Script,
     /// As an array in C.
     Array,
-}
-
-/// The reason why a text has no writes, or no plan.
-#[derive(Clone, Copy, Debug, PartialEq, Eq)]
-pub enum AnswerFault {
-    /// The text describes no plan.
-    Text(RowFault),
-    /// The text describes no script.
-    Script(LineFault),
-    /// There are no writes for the plan, or memory ran out.
-    Plan(PlanFault),
-}
-
-impl From<PlanFault> for AnswerFault {
-    ghost from_gives = { λ fault answer. answer ≡ Plan fault };
-
-    fn from(fault: PlanFault) -> AnswerFault {
-        AnswerFault::Plan(fault)
-    }
-}
-
-impl From<RowFault> for AnswerFault {
-    ghost from_gives = { λ fault answer. answer ≡ Text fault };
-
-    fn from(fault: RowFault) -> AnswerFault {
-        AnswerFault::Text(fault)
-    }
-}
-
-impl From<LineFault> for AnswerFault {
-    ghost from_gives = { λ fault answer. answer ≡ Script fault };
-
-    fn from(fault: LineFault) -> AnswerFault {
-        AnswerFault::Script(fault)
-    }
-}
-
-impl From<AllocError> for AnswerFault {
-    ghost from_gives = { λ _ answer. answer ≡ Plan Memory };
-
-    fn from(_: AllocError) -> AnswerFault {
-        AnswerFault::Plan(PlanFault::Memory)
-    }
 }
 
 /// What is asked of the writes of a plan, and how they are written.
@@ -82,7 +36,7 @@ fn told(
     start: &RegFile,
     wanted: Wanted,
     rows: &[PlanRow<'_>],
-) -> Result<Vec<u8>, AnswerFault>
+) -> Result<Vec<u8>, Fault>
     ensures ok { IfOk result (λ text. IsTold start.now wanted.aim wanted.form rows.now text.items) }
     ensures err { IfErr result (Untold start.now wanted.aim rows.now) }
 {
@@ -102,12 +56,12 @@ pub fn plan_text(
     start: &RegFile,
     wanted: Wanted,
     plan: &[u8],
-) -> Result<Vec<u8>, AnswerFault>
+) -> Result<Vec<u8>, Fault>
     ensures ok { IfOk result (λ text. Tells start.now wanted.aim wanted.form plan.now text.items) }
     ensures err { IfErr result (PlanFails start.now wanted.aim plan.now) }
 {
     if plan.len() > MAX_SCRIPT {
-        return Err(AnswerFault::Text(Refusal::TooLong.whole().at_row(0)));
+        return Err(Refusal::TooLong.whole().at_row(Source::Plan, 0));
     }
     let rows = read_plan(alloc, plan)?;
     told(alloc, start, wanted, &rows)

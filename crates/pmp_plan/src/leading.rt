@@ -5,7 +5,6 @@ ghost use Rattle.pmp_plan.specs.PlanFaults.{IsSound, RefusesFrom};
 ghost use Rattle.pmp_plan.specs.Routes.{Leads, lasting};
 
 use crate::aim::{Aim, Watch};
-use crate::fault::PlanFault;
 use crate::judge::meets;
 use crate::layout::{Layout, behind_frozen, with_entries};
 use crate::order::Route;
@@ -18,6 +17,7 @@ use crate::state::State;
 use crate::writes::WRITES;
 use arrayvec::ArrayVec;
 use pmp_core::{Event, RegFile, SavedRegisters};
+use pmp_text::{Fault, Refusal};
 
 /// Returns writes to the plan's entries in the first place where an order is found.
 fn order_in(layout: Layout<'_>, aim: Aim, rows: &[PlanRow<'_>]) -> Option<ArrayVec<Event, WRITES>> {
@@ -103,7 +103,7 @@ pub fn plan(
     start: &RegFile,
     aim: Aim,
     rows: &[PlanRow<'_>],
-) -> Result<ArrayVec<Event, WRITES>, PlanFault>
+) -> Result<ArrayVec<Event, WRITES>, Fault>
     ensures ok { IfOk result (λ writes. Leads start.now aim rows.now writes.items) }
     ensures sound { IfOk result (λ _. IsSound start.now.profile (lasting start.now aim.security) rows.now) }
     ensures err { IfErr result (RefusesFrom start.now aim rows.now) }
@@ -118,6 +118,6 @@ pub fn plan(
     }
     match found(room, start, aim, rows, &planned) {
         Some(writes) if leads(start, aim, rows, &writes) => Ok(writes),
-        _ => Err(PlanFault::NoOrder),
+        _ => Err(Fault::from(Refusal::NoOrder)),
     }
 }

@@ -37,9 +37,8 @@ mod verdicts;
 mod writes;
 
 pub use aim::{Aim, Watch};
-pub use answer::{AnswerFault, Form, Wanted, plan_text};
+pub use answer::{Form, Wanted, plan_text};
 pub use array::append_array;
-pub use fault::PlanFault;
 pub use judge::meets;
 pub use leading::plan;
 pub use level::{SEARCH_ROOM, search_room};

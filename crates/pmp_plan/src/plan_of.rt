@@ -1,10 +1,8 @@
 //! The plan that registers implement.
 
 ghost use Rattle.std.specs.Prelude.{◌≡◌, ◌<◌, IfErr, IfOk, IfSome, IsTrue, length};
-ghost use Rattle.pmp_plan.specs.PlansOf.{HasNoPlan, IsPlanOf, IsPlanOfScript, Leaves, LeavesNone};
+ghost use Rattle.pmp_plan.specs.PlansOf.{IsPlanOf, IsPlanOfScript, Leaves, LeavesNone};
 
-use crate::answer::AnswerFault;
-use crate::fault::PlanFault;
 use crate::judge::meets;
 use crate::letters::{Letters, yes_no};
 use crate::plan_row::Demand;
@@ -13,7 +11,7 @@ use crate::row_faults::overlap;
 use crate::security::Security;
 use pmp_core::{ADDRESS_LIMIT, RegFile, Registers};
 use pmp_map::{ModeRights, Run, is_held, run_around};
-use pmp_text::{GrowingLog, NoMemory, append_line, read_script_in};
+use pmp_text::{Fault, GrowingLog, NoMemory, Refusal, append_line, read_script_in};
 use std::alloc::Global;
 use std::fmt;
 
@@ -86,7 +84,7 @@ fn is_plan_of(alloc: Global, text: &[u8], file: &RegFile, security: Security) ->
 }
 
 /// Returns the registers after all publications of a script.
-pub fn registers_after(alloc: Global, script: &[u8]) -> Result<RegFile, AnswerFault>
+pub fn registers_after(alloc: Global, script: &[u8]) -> Result<RegFile, Fault>
     ensures ok { IfOk result (Leaves script.now) }
     ensures err { IfErr result (LeavesNone script.now) }
 {
@@ -98,15 +96,15 @@ pub fn registers_after(alloc: Global, script: &[u8]) -> Result<RegFile, AnswerFa
 }
 
 /// Returns the plan that the final registers of a script implement: it is read back, and checked against them.
-pub fn implemented_plan(alloc: Global, script: &[u8]) -> Result<Vec<u8>, AnswerFault>
+pub fn implemented_plan(alloc: Global, script: &[u8]) -> Result<Vec<u8>, Fault>
     ensures ok { IfOk result (λ text. IsPlanOfScript script.now text.items) }
-    ensures err { IfErr result (HasNoPlan script.now) }
+    ensures err { IfErr result (LeavesNone script.now) }
 {
     let file = registers_after(alloc, script)?;
     let security = Security::of(&file);
     let text = text_of(alloc, &file, security)?;
     if !is_plan_of(alloc, &text, &file, security) {
-        return Err(AnswerFault::Plan(PlanFault::Memory));
+        return Err(Fault::from(Refusal::Memory));
     }
     Ok(text)
 }

@@ -6,7 +6,7 @@ ghost use Rattle.pmp_plan.specs.PlanFaults.{CanMeet, IsSound, Makes, Refuses};
 ghost use Rattle.pmp_plan.specs.NoRows.{security_writes};
 ghost use Rattle.pmp_plan.specs.Plans.{no_security};
 
-use crate::fault::PlanFault;
+use crate::fault::too_few;
 use crate::judge::meets;
 use crate::parts::Parts;
 use crate::plan_row::PlanRow;
@@ -17,6 +17,7 @@ use crate::state::{Chosen, State};
 use crate::writes::{WRITES, are_writes, writes_of};
 use arrayvec::ArrayVec;
 use pmp_core::{Csr, Event, Hart, MAX_ENTRIES, Profile, RegFile};
+use pmp_text::{Fault, Refusal};
 
 /// Writes to a hart after reset that leave registers which meet a plan.
 #[derive(Drop)]
@@ -96,29 +97,37 @@ fn costliest(parts: &Parts, state: &State, rows: &[PlanRow<'_>]) -> (usize, usiz
 }
 
 /// Returns the writes for a sound plan with rows.
+#[tactic(auto, using(crate::specs::PlanFaults::stopped, crate::specs::PlanFaults::few_entries))]
 fn found(
     room: &mut [State],
     hart: Hart,
     security: Security,
     rows: &[PlanRow<'_>],
-) -> Result<Planned, PlanFault>
+) -> Result<Planned, Fault>
     requires sound { IsSound hart security rows.now }
     requires rows { 0 < length rows.now }
     ensures made { IfOk result (λ planned. Makes hart security rows.now planned.writes.items) }
     ensures few { IfOk result (λ planned. rows.now ≡ [] → length planned.writes.items ≤ 1) }
     ensures err { IfErr result (Refuses hart security rows.now) }
 {
-    let parts = Parts::of(hart, security, rows).ok_or(PlanFault::Stopped)?;
-    let state = search(room, &parts, State::beginning(&parts)).ok_or(PlanFault::Stopped)?;
+    let Some(parts) = Parts::of(hart, security, rows) else {
+        return Err(Fault::from(Refusal::Stopped));
+    };
+    let Some(state) = search(room, &parts, State::beginning(&parts)) else {
+        return Err(Fault::from(Refusal::Stopped));
+    };
     let found = state.count.max(1);
     if found <= usize::from(hart.entries()) {
-        return judged(hart, security, rows, state.entries()).ok_or(PlanFault::Stopped);
+        return match judged(hart, security, rows, state.entries()) {
+            Some(planned) => Ok(planned),
+            None => Err(Fault::from(Refusal::Stopped)),
+        };
     }
     if !is_enough(hart, security, rows, state.entries(), found) {
-        return Err(PlanFault::Stopped);
+        return Err(Fault::from(Refusal::Stopped));
     }
     let (row, takes) = costliest(&parts, &state, rows);
-    Err(PlanFault::FewEntries { found, row, takes })
+    Err(too_few(found, row, takes))
 }
 
 /// Returns the write of `mseccfg`, if one of its bits is asked for.
@@ -160,7 +169,7 @@ pub fn plan_at_reset(
     hart: Hart,
     security: Security,
     rows: &[PlanRow<'_>],
-) -> Result<Planned, PlanFault>
+) -> Result<Planned, Fault>
     ensures made { IfOk result (λ planned. Makes hart security rows.now planned.writes.items) }
     ensures few { IfOk result (λ planned. rows.now ≡ [] → length planned.writes.items ≤ 1) }
     ensures sound { IfOk result (λ planned. IsSound hart security rows.now) }
@@ -172,11 +181,7 @@ pub fn plan_at_reset(
     }
     let planned = of_no_rows(hart, security);
     if hart.entries() == 0 {
-        return Err(PlanFault::FewEntries {
-            found: 1,
-            row: 0,
-            takes: 0,
-        });
+        return Err(too_few(1, 0, 0));
     }
     Ok(planned)
 }

@@ -3,11 +3,13 @@
 ghost use Rattle.std.specs.Prelude.{◌≡◌, All, IfErr, IsTrue, MatchOption, OnOk, false};
 ghost use Rattle.std.specs.List.{AllPairs};
 ghost use Rattle.pmp_plan.specs.declared.security.Security.{Security};
-ghost use Rattle.pmp_plan.specs.PlanFaults.{AreApart, AreOverlapping, HaveCommonByte, IsFit, IsFlawOf, Refuses, is_inside};
+ghost use Rattle.pmp_plan.specs.PlanFaults.{AreApart, AreOverlapping, HaveCommonByte, IsFit, Refuses, is_inside};
+ghost use Rattle.pmp_plan.specs.PlanFaults.{IsUnfit};
 
-use crate::fault::PlanFault;
+use crate::fault::{in_row, two_rows};
 use crate::plan_row::PlanRow;
 use pmp_core::Hart;
+use pmp_text::{Fault, Flaw, Refusal};
 
 /// Whether two rows have no byte in common.
 fn are_apart(one: &PlanRow<'_>, other: &PlanRow<'_>) -> bool
@@ -40,23 +42,17 @@ fn is_inside(hart: Hart, byte: u64) -> bool
 }
 
 /// Returns what is wrong with a row by itself.
-fn flaw_of(hart: Hart, index: usize, row: &PlanRow<'_>) -> Option<PlanFault>
-    ensures { MatchOption result (IsFit hart row.now) (IsFlawOf hart index row.now) }
+fn flaw_of(hart: Hart, row: &PlanRow<'_>) -> Option<Flaw>
+    ensures { MatchOption result (IsFit hart row.now) (IsUnfit hart row.now) }
 {
     if is_inside(hart, row.first) {
-        return Some(PlanFault::TooFine {
-            row: index,
-            field: 0,
-        });
+        return Some(Refusal::TooFine.part(0));
     }
     if is_inside(hart, row.last + 1) {
-        return Some(PlanFault::TooFine {
-            row: index,
-            field: 1,
-        });
+        return Some(Refusal::TooFine.part(1));
     }
     if row.last / 4 >= hart.word_addresses() {
-        return Some(PlanFault::PastEnd { row: index });
+        return Some(Refusal::PastEnd.whole());
     }
     None
 }
@@ -64,17 +60,17 @@ fn flaw_of(hart: Hart, index: usize, row: &PlanRow<'_>) -> Option<PlanFault>
 /// Checks that the rows are those of a plan for the hart: no two have a byte in common, and each begins and ends at
 /// grain boundaries, below the end of its addresses.
 #[tactic(auto, using(std::proofs::lemmas::List::take_all))]
-pub fn check_rows(hart: Hart, rows: &[PlanRow<'_>]) -> Result<(), PlanFault>
+pub fn check_rows(hart: Hart, rows: &[PlanRow<'_>]) -> Result<(), Fault>
     ensures apart { OnOk result (AllPairs AreApart rows.now) }
     ensures fit { OnOk result (All (IsFit hart) rows.now) }
     ensures err { (security : Security) → IfErr result (Refuses hart security rows.now) }
 {
     if let Some((row, other)) = overlap(rows) {
-        return Err(PlanFault::Overlap { row, other });
+        return Err(two_rows(row, other));
     }
     for (index, row) in rows.iter().enumerate() {
-        if let Some(fault) = flaw_of(hart, index, row) {
-            return Err(fault);
+        if let Some(flaw) = flaw_of(hart, row) {
+            return Err(in_row(index, flaw));
         }
     }
     Ok(())

@@ -6,11 +6,12 @@ ghost use Rattle.pmp_plan.specs.PlanRules.{HasRule};
 ghost use Rattle.pmp_plan.specs.declared.plan_row.PlanRow.{PlanRow};
 
 use crate::choices::has_rule;
-use crate::fault::PlanFault;
+use crate::fault::in_row;
 use crate::plan_row::PlanRow;
 use crate::row_faults::check_rows;
 use crate::security::Security;
 use pmp_core::Hart;
+use pmp_text::{Fault, Refusal};
 
 /// Returns the first row whose rights no rule, or no rule that can be held, gives.
 fn unruled(security: Security, rows: &[PlanRow<'_>]) -> Option<usize>
@@ -26,16 +27,17 @@ fn unruled(security: Security, rows: &[PlanRow<'_>]) -> Option<usize>
 }
 
 /// Checks a plan by itself.
-pub fn check_plan(hart: Hart, security: Security, rows: &[PlanRow<'_>]) -> Result<(), PlanFault>
+#[tactic(auto, using(crate::specs::PlanFaults::not_held))]
+pub fn check_plan(hart: Hart, security: Security, rows: &[PlanRow<'_>]) -> Result<(), Fault>
     ensures ok { OnOk result (IsSound hart security rows.now) }
     ensures err { IfErr result (Refuses hart security rows.now) }
 {
     check_rows(hart, rows)?;
     if security != Security::NONE && !hart.has_smepmp() {
-        return Err(PlanFault::NotHeld);
+        return Err(Fault::from(Refusal::NotHeld));
     }
     match unruled(security, rows) {
-        Some(row) => Err(PlanFault::BadPair { row }),
+        Some(index) => Err(in_row(index, Refusal::BadPair.whole())),
         None => Ok(()),
     }
 }

@@ -1,7 +1,7 @@
 //! Whether a register file meets the rows of a plan, row by row, as text.
 
 ghost use Rattle.std.specs.Prelude.{◌≡◌, ◌⊎◌, ◌++◌, Err, IfErr, List, OnErr, OnOk, Some, ℕ};
-ghost use Rattle.pmp_text.specs.Outcomes.{no_memory_for_rows};
+ghost use Rattle.pmp_text.specs.Outcomes.{no_memory};
 ghost use Rattle.pmp_plan.specs.Verdicts.{owner_text};
 ghost use Rattle.pmp_plan.specs.PlanTexts.{plan_said};
 ghost use Rattle.pmp_plan.specs.Verdicts.{AreJudged, IsRestVerdict, VerdictsSay, verdict_line};
@@ -13,7 +13,7 @@ use crate::row_list::RowList;
 use crate::security::Security;
 use crate::unmet::{Unmet, first_unmet, first_unmet_rest};
 use pmp_core::{RegFile, Registers};
-use pmp_text::{NoMemory, RowFault, Sink, append_line};
+use pmp_text::{Fault, NoMemory, Sink, append_line};
 use std::fmt;
 
 /// The number of an entry, or a dash for none.
@@ -80,10 +80,10 @@ pub fn append_verdicts<'a, L: RowList<'a>, S: Sink>(
     file: &RegFile,
     text: &'a [u8],
     out: &mut S,
-) -> Result<(), RowFault>
+) -> Result<(), Fault>
     ensures ok { OnOk result ((lines : List ℕ) × VerdictsSay file.now text.now lines
         × (S.text out.new ≡ S.text out.old ++ lines)) }
-    ensures err { IfErr result (λ fault. (fault ≡ no_memory_for_rows) ⊎ (plan_said text.now ≡ Err fault)) }
+    ensures err { IfErr result (λ fault. (fault ≡ no_memory) ⊎ (plan_said text.now ≡ Err fault)) }
 {
     read_plan_to(rows, text)?;
     append_rows(out, &file.registers(), rows.rows())?;

@@ -1,6 +1,7 @@
 //! An audit by several workers that pass a gate.
 
-use pmp_audit::{AuditSummary, Gate, ReportFault, audit_by_workers};
+use pmp_audit::{AuditSummary, Gate, audit_by_workers};
+use pmp_text::Fault;
 use std::alloc::{AllocError, Global};
 use std::sync::Wait;
 use std::sync::atomic::{AtomicBool, AtomicU64, Ordering};
@@ -112,14 +113,14 @@ fn audit_all<R: Threads + Wait + Sync, G: Gate + Sync>(
     alloc: Global,
     gate: &G,
     first: u64,
-) -> Result<AuditSummary, ReportFault> {
+) -> Result<AuditSummary, Fault> {
     let trace = trace_of(alloc, first, ROWS)?;
     let mut report = Vec::new(alloc);
     audit_by_workers(rt, alloc, gate, 8, SCRIPT, trace.as_slice(), &mut report)
 }
 
 /// Returns the summary of all rows decided, with the given number of them refused.
-fn with_faults(faults: u64) -> Result<AuditSummary, ReportFault> {
+fn with_faults(faults: u64) -> Result<AuditSummary, Fault> {
     Ok(AuditSummary {
         rows: ROWS,
         faults,

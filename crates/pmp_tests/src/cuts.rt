@@ -1,7 +1,7 @@
 //! A long audit of a trace that is cut at every limit.
 
-use pmp_audit::{AuditSummary, ReportFault, audit_long, audit_whole};
-use pmp_text::{Refusal, RowFault};
+use pmp_audit::{AuditSummary, audit_long, audit_whole};
+use pmp_text::{Fault, Place, Refusal, Source};
 use std::alloc::Global;
 use std::thread::Threads;
 
@@ -22,11 +22,14 @@ const FALLING: &[u8] =
 const ROOM: usize = 30;
 
 /// The refusal of a line that is longer than a piece.
-const LONG_LINE: ReportFault = ReportFault::Trace(RowFault {
-    kind: Refusal::TooLong,
-    row: 0,
-    field: None,
-});
+const LONG_LINE: Fault = Fault {
+    refusal: Refusal::TooLong,
+    place: Place::In {
+        source: Source::Trace,
+        number: 0,
+        part: None,
+    },
+};
 
 /// Returns the result and the report of an audit with pieces of at most `limit` bytes and `jobs` of them at a time.
 fn audit_by_pieces<R: Threads + Sync>(
@@ -35,7 +38,7 @@ fn audit_by_pieces<R: Threads + Sync>(
     jobs: usize,
     limit: usize,
     trace: &[u8],
-) -> (Result<AuditSummary, ReportFault>, Vec<u8>) {
+) -> (Result<AuditSummary, Fault>, Vec<u8>) {
     let mut reader = trace;
     let mut report = Vec::new(alloc);
     let answer = audit_long(rt, alloc, jobs, SCRIPT, 1, limit, &mut reader, &mut report);
@@ -69,11 +72,7 @@ fn cuts_show_nowhere(rt: HostRuntime) {
 /// answer to the trace without it.
 #[test]
 fn order_goes_over_cuts(rt: HostRuntime) {
-    let order = ReportFault::Trace(RowFault {
-        kind: Refusal::Order,
-        row: 5,
-        field: Some(0),
-    });
+    let order = Refusal::Order.part(0).at_row(Source::Trace, 5);
     let mut whole = Vec::new(rt.alloc());
     let sound = audit_whole(rt.alloc(), SCRIPT, TRACE, &mut whole);
     assert!(rt; sound.is_ok());

@@ -1,7 +1,7 @@
 //! Readers that never end, and readers that fail.
 
 use pmp_text::{
-    GrowingLog, InputFault, LineFault, MAX_SCRIPT, MAX_TRACE, Moments, Refusal, read_bytes,
+    GrowingLog, InputFault, MAX_SCRIPT, MAX_TRACE, Moments, Refusal, Source, read_bytes,
     read_script_in, read_trace_by,
 };
 use std::alloc::Global;
@@ -74,14 +74,10 @@ fn line_feeds(rt: &impl Abort, alloc: Global, blocks: usize) -> Vec<u8> {
 #[test]
 fn longer_texts_are_too_long(rt: HostRuntime) {
     let script = line_feeds(&rt, rt.alloc(), MAX_SCRIPT / 4096);
-    let (kind, word) = (Refusal::TooLong, None);
+    let long = Refusal::TooLong.whole();
     assert!(rt;
         read_script_in(&mut GrowingLog::new(rt.alloc()), script.as_slice()).err()
-            == Some(LineFault {
-                kind,
-                line: 0,
-                word
-            })
+            == Some(long.at_row(Source::Script, 0))
     );
     let trace = line_feeds(&rt, rt.alloc(), MAX_TRACE / 4096);
     let moments = Moments {
@@ -90,6 +86,7 @@ fn longer_texts_are_too_long(rt: HostRuntime) {
         lasting: None,
     };
     assert!(rt;
-        read_trace_by(rt.alloc(), trace.as_slice(), &moments).err() == Some(kind.whole().at_row(0))
+        read_trace_by(rt.alloc(), trace.as_slice(), &moments).err()
+            == Some(long.at_row(Source::Trace, 0))
     );
 }

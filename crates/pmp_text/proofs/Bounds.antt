@@ -10,7 +10,7 @@ use Rattle.pmp_core.specs.declared.event.TheConstants.{BATCH_EVENTS}
 use Rattle.pmp_text.specs.declared.flaw.Flaw.{Flaw}
 use Rattle.pmp_text.specs.declared.mark.Name.{Name}
 use Rattle.pmp_text.specs.declared.refusal.Refusal.TheVariants.{BatchFull, TooMany}
-use Rattle.pmp_text.specs.declared.script.LineFault.{LineFault}
+use Rattle.pmp_text.specs.declared.fault.Fault.{Fault}
 use Rattle.pmp_text.specs.declared.script.reader.TheConstants.{MAX_EVENTS}
 use Rattle.pmp_text.specs.declared.script.statement.Statement.{Statement}
 use Rattle.pmp_text.specs.declared.script.statement.Statement.TheVariants as statement
@@ -124,9 +124,9 @@ module _ (version : Version) where
       → IsInLimits all.published.batches
 
   behind_line : (more : List Line) → IsLimited more → (so_far : Reading) → IsCounted so_far → (number : ℕ)
-      (says : Result Statement Flaw) (all : Read) (step : Result Reading LineFault)
+      (says : Result Statement Flaw) (all : Read) (step : Result Reading Fault)
       → after_statement version so_far number says ≡ step
-      → elim step as (λ _. Result Read LineFault) [ Ok next ↦ resumed version next more | Err fault ↦ Err fault ]
+      → elim step as (λ _. Result Read Fault) [ Ok next ↦ resumed version next more | Err fault ↦ Err fault ]
       ≡ Ok all → IsInLimits all.published.batches
   behind_line more limited so_far counted number says all (Ok next) was e =
       limited next (one_line so_far counted number version next says was) all e

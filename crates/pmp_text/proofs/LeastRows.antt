@@ -8,7 +8,7 @@ use Rattle.pmp_core.specs.Access.{access_fault}
 use Rattle.pmp_text.specs.declared.trace.row_fields.RowFields.{RowFields}
 use Rattle.pmp_text.specs.declared.flaw.Flaw.{Flaw}
 use Rattle.pmp_text.specs.declared.refusal.Refusal.TheVariants.{BadAfter, BadHeader, Order, TooLong}
-use Rattle.pmp_text.specs.declared.trace.RowFault.{RowFault}
+use Rattle.pmp_text.specs.declared.fault.Fault.{Fault}
 use Rattle.pmp_text.specs.Faults.{IsLeastFault}
 use Rattle.pmp_text.specs.Moments.{KnownMoments}
 use Rattle.pmp_text.specs.Tables.{fault_or_rows, records_of}
@@ -20,15 +20,16 @@ use Rattle.pmp_text.specs.declared.trace.reader.TheConstants.{MAX_TRACE}
 use Rattle.pmp_text.proofs.LeastFaults.{Judges, judged_here, judged_as, the_first}
 use Rattle.pmp_text.proofs.Rows.{by_records, this_header, trace_is}
 use Rattle.pmp_text.specs.Flaws.{at_row, part, as_whole}
+use Rattle.pmp_text.specs.declared.fault.Source.TheVariants as source
 
 abbrev pub Records : Type 0
 Records = List (List (List ℕ))
 
 module _ (moments : KnownMoments) where
   -- the fault of a row behind one that asks for `last`, the first with this number
-  abbrev fault_behind : (last : Option ℕ) (number : ℕ) → Records → ℕ → Option RowFault
-  fault_behind last number rows index = option_and_then {T = List (List ℕ)} {U = RowFault}
-      (λ row. option_map (at_row (number + index)) (row_fault moments.publications
+  abbrev fault_behind : (last : Option ℕ) (number : ℕ) → Records → ℕ → Option Fault
+  fault_behind last number rows index = option_and_then {T = List (List ℕ)} {U = Fault}
+      (λ row. option_map (at_row source.Trace (number + index)) (row_fault moments.publications
       (after_before moments last rows index) (row_in moments row))) (slice_get rows index)
 
   one_behind : (last : Option ℕ) (number : ℕ) (row : List (List ℕ)) (more : Records) (index : ℕ)
@@ -36,22 +37,22 @@ module _ (moments : KnownMoments) where
       ≡ fault_behind (after_of (row_of_record moments row)) (number + 1) more index
   one_behind last number row more zero =
       let same : number + 1 ≡ number + 1 + 0 = omega arith in
-      ap (λ (n : ℕ). option_and_then {T = List (List ℕ)} {U = RowFault}
-      (λ next. option_map (at_row n) (row_fault moments.publications (after_of (row_of_record moments row))
+      ap (λ (n : ℕ). option_and_then {T = List (List ℕ)} {U = Fault}
+      (λ next. option_map (at_row source.Trace n) (row_fault moments.publications (after_of (row_of_record moments row))
       (row_in moments next)))
       (slice_get more 0)) same
   one_behind last number row more (suc index) =
       let same : number + suc (suc index) ≡ number + 1 + suc index = omega arith in
-      ap (λ (n : ℕ). option_and_then {T = List (List ℕ)} {U = RowFault}
-      (λ next. option_map (at_row n) (row_fault moments.publications
+      ap (λ (n : ℕ). option_and_then {T = List (List ℕ)} {U = Fault}
+      (λ next. option_map (at_row source.Trace n) (row_fault moments.publications
       (after_before moments last (row ∷ more) (suc (suc index)))
       (row_in moments next))) (slice_get more (suc index))) same
 
   here : (last : Option ℕ) (number : ℕ) (row : List (List ℕ)) (more : Records)
-      → fault_behind last number (row ∷ more) 0 ≡ option_map (at_row number)
+      → fault_behind last number (row ∷ more) 0 ≡ option_map (at_row source.Trace number)
       (row_fault moments.publications last (row_in moments row))
   here last number row more = let same : number + 0 ≡ number = omega arith in
-      ap (λ (n : ℕ). option_map (at_row n) (row_fault moments.publications last (row_in moments row))) same
+      ap (λ (n : ℕ). option_map (at_row source.Trace n) (row_fault moments.publications last (row_in moments row))) same
 
   judged_behind : (rows : Records) (last : Option ℕ) (number : ℕ)
       → Judges (fault_behind last number rows) (first_row_fault moments last number rows)
@@ -59,7 +60,7 @@ module _ (moments : KnownMoments) where
   judged_behind (row ∷ more) = λ last number.
       judged_here (fault_behind last number (row ∷ more))
       (fault_behind (after_of (row_of_record moments row)) (number + 1) more) (one_behind last number row more)
-      (option_map (at_row number) (row_fault moments.publications last (row_in moments row)))
+      (option_map (at_row source.Trace number) (row_fault moments.publications last (row_in moments row)))
       (first_row_fault moments (after_of (row_of_record moments row)) (number + 1) more) (here last number row more)
       (judged_behind more (after_of (row_of_record moments row)) (number + 1))
 
@@ -67,8 +68,8 @@ module _ (moments : KnownMoments) where
       → row_fault_at moments rows index ≡ fault_behind None 1 rows index
   counted_from_one rows index =
       let same : index + 1 ≡ 1 + index = omega arith in
-      ap (λ (n : ℕ). option_and_then {T = List (List ℕ)} {U = RowFault}
-      (λ row. option_map (at_row n) (row_fault moments.publications (after_before moments None rows index)
+      ap (λ (n : ℕ). option_and_then {T = List (List ℕ)} {U = Fault}
+      (λ row. option_map (at_row source.Trace n) (row_fault moments.publications (after_before moments None rows index)
       (row_in moments row)))
       (slice_get rows index)) same
 
@@ -77,13 +78,13 @@ module _ (moments : KnownMoments) where
   first_row_is_least rows = judged_as (fault_behind None 1 rows) (row_fault_at moments rows)
       (first_row_fault moments None 1 rows) (counted_from_one rows) (judged_behind rows None 1)
 
-  pub least_row_is_answered : (text : List ℕ) (header : List (List ℕ)) (rows : Records) (fault : RowFault)
+  pub least_row_is_answered : (text : List ℕ) (header : List (List ℕ)) (rows : Records) (fault : Fault)
       → length text ≤ MAX_TRACE → records_of text ≡ header ∷ rows → is_header header ≡ true
       → IsLeastFault (row_fault_at moments rows) fault → trace_meaning moments text ≡ Err fault
   least_row_is_answered text header rows fault short records named least =
-      trace_is moments text ∙ by_records is_header (rows_meaning moments) text short
-      ∙ this_header is_header (rows_meaning moments) (records_of text) header rows records named
-      ∙ ap (λ (first : Option RowFault). fault_or_rows first (filter_map (row_of_record moments) rows))
+      trace_is moments text ∙ by_records source.Trace is_header (rows_meaning moments) text short
+      ∙ this_header source.Trace is_header (rows_meaning moments) (records_of text) header rows records named
+      ∙ ap (λ (first : Option Fault). fault_or_rows first (filter_map (row_of_record moments) rows))
       (the_first (row_fault_at moments rows) (first_row_fault moments None 1 rows) fault
       (first_row_is_least rows) least)
 
@@ -96,11 +97,11 @@ module _ (moments : KnownMoments) where
   not_behind None after e = omega arith
   not_behind (Some last) after e = ltb-false after last e
 
-  no_fault : (own later : Option RowFault) → option_or own later ≡ None → (own ≡ None) × (later ≡ None)
+  no_fault : (own later : Option Fault) → option_or own later ≡ None → (own ≡ None) × (later ≡ None)
   no_fault None later e = (refl, e)
   no_fault (Some fault) later e = absurd cc
 
-  no_kind : (number : ℕ) (kind : Option Flaw) → option_map (at_row number) kind ≡ None → kind ≡ None
+  no_kind : (number : ℕ) (kind : Option Flaw) → option_map (at_row source.Trace number) kind ≡ None → kind ≡ None
   no_kind number None e = refl
   no_kind number (Some kind) e = absurd cc
 
@@ -126,18 +127,18 @@ module _ (moments : KnownMoments) where
           → IsInOrder moments.publications (least_of last) (afters (filter_map (row_of_record moments) (row ∷ more)))
       by (Err flaw) says last number e later =
           let own : Some flaw ≡ None = no_kind number (Some flaw)
-          (no_fault (Some (at_row number flaw)) (first_row_fault moments None (number + 1) more)
+          (no_fault (Some (at_row source.Trace number flaw)) (first_row_fault moments None (number + 1) more)
           (rw says at e)).0 in
           absurd cc
       by (Ok fields) says last number e later =
-          let (own, rest) = no_fault (option_map (at_row number) (fields_fault moments.publications last fields))
+          let (own, rest) = no_fault (option_map (at_row source.Trace number) (fields_fault moments.publications last fields))
           (first_row_fault moments (Some fields.after) (number + 1) more) (rw says at e) in
           let time = in_time last fields (nat_lt moments.publications fields.after)
           (falls_behind last fields.after) refl refl
           (no_kind number (fields_fault moments.publications last fields) own) in
           rw says (time.0, time.1, later (Some fields.after) (number + 1) rest)
 
-  judged_ok : (first : Option RowFault) (said rows : List RowFields) → fault_or_rows first said ≡ Ok rows
+  judged_ok : (first : Option Fault) (said rows : List RowFields) → fault_or_rows first said ≡ Ok rows
       → (first ≡ None) × (said ≡ rows)
   judged_ok None said rows e = let same : said ≡ rows = cc in (refl, same)
   judged_ok (Some fault) said rows e = absurd cc
@@ -152,7 +153,7 @@ module _ (moments : KnownMoments) where
         rw (← same) (rows_in_order records None 1 first)
 
     from_header : (named : Bool) (records : Records)
-        → cond named (rows_meaning moments records) (Err (at_row 0 (as_whole BadHeader))) ≡ Ok rows
+        → cond named (rows_meaning moments records) (Err (at_row source.Trace 0 (as_whole BadHeader))) ≡ Ok rows
         → IsInOrder moments.publications 0 (afters rows)
     from_header true records e = from_rows records e
     from_header false records e = absurd cc
@@ -163,7 +164,7 @@ module _ (moments : KnownMoments) where
     from_records (header ∷ records) e = from_header (is_header header) records e
 
     from_text : (long : Bool) (text : List ℕ)
-        → cond long (Err (at_row 0 (as_whole TooLong))) (records_meaning moments (records_of text)) ≡ Ok rows
+        → cond long (Err (at_row source.Trace 0 (as_whole TooLong))) (records_meaning moments (records_of text)) ≡ Ok rows
         → IsInOrder moments.publications 0 (afters rows)
     from_text true text e = absurd cc
     from_text false text e = from_records (records_of text) e

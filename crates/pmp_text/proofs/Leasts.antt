@@ -7,7 +7,7 @@ use Rattle.std.specs.Option.{option_or}
 use Rattle.std.proofs.lemmas.List.{append-nil, reverse-append}
 use Rattle.pmp_text.specs.declared.script.version.Version.{Version}
 use Rattle.pmp_text.specs.declared.script.version.Version.TheVariants.{Sized, Headed}
-use Rattle.pmp_text.specs.declared.script.LineFault.{LineFault}
+use Rattle.pmp_text.specs.declared.fault.Fault.{Fault}
 use Rattle.pmp_text.specs.Longhand.{meant_lines}
 use Rattle.pmp_text.specs.ScriptLines.{Line, version_flaw, version_named}
 use Rattle.pmp_text.specs.ScriptFaults.{first_fault, line_fault}
@@ -19,12 +19,12 @@ use Rattle.pmp_text.proofs.LeastFaults.{Judges, judged_here, judged_as, the_firs
 use Rattle.pmp_text.proofs.Meanings.{by_lines}
 use Rattle.pmp_text.specs.Flaws.{at_line}
 
-abbrev own_fault : (before : List Line) → Line → Option LineFault
+abbrev own_fault : (before : List Line) → Line → Option Fault
 own_fault before line = option_map (at_line line.number) (line_fault before line)
 
 -- the fault of the line with this index, where other lines stand before these, the nearest first
-abbrev fault_behind : (before lines : List Line) → ℕ → Option LineFault
-fault_behind before lines index = option_and_then {T = Line} {U = LineFault}
+abbrev fault_behind : (before lines : List Line) → ℕ → Option Fault
+fault_behind before lines index = option_and_then {T = Line} {U = Fault}
     (own_fault (reverse (take index lines) ++ before)) (slice_get lines index)
 
 turned : (line : Line) (lines before : List Line) → reverse (line ∷ lines) ++ before ≡ reverse lines ++ line ∷ before
@@ -34,7 +34,7 @@ turned line lines before = ap (λ (front : List Line). front ++ before) (reverse
 one_behind : (before : List Line) (line : Line) (more : List Line) (index : ℕ)
     → fault_behind before (line ∷ more) (suc index) ≡ fault_behind (line ∷ before) more index
 one_behind before line more index =
-    ap (λ (front : List Line). option_and_then {T = Line} {U = LineFault} (own_fault front) (slice_get more index))
+    ap (λ (front : List Line). option_and_then {T = Line} {U = Fault} (own_fault front) (slice_get more index))
     (turned line (take index more) before)
 
 judged_behind : (lines before : List Line) → Judges (fault_behind before lines) (first_fault before lines)
@@ -45,37 +45,37 @@ judged_behind (line ∷ more) = λ before. judged_here (fault_behind before (lin
 
 nothing_before : (lines : List Line) (index : ℕ) → fault_at lines index ≡ fault_behind [] lines index
 nothing_before lines index =
-    ap (λ (front : List Line). option_and_then {T = Line} {U = LineFault} (own_fault front) (slice_get lines index))
+    ap (λ (front : List Line). option_and_then {T = Line} {U = Fault} (own_fault front) (slice_get lines index))
     (sym (append-nil (reverse (take index lines))))
 
 pub first_is_least : (lines : List Line) → Judges (fault_at lines) (first_fault [] lines)
 first_is_least lines = judged_as (fault_behind [] lines) (fault_at lines) (first_fault [] lines) (nothing_before lines)
     (judged_behind lines [])
 
-by_fault : (version : Version) (first : Line) (more : List Line) (fault : Option LineFault) (known : LineFault)
+by_fault : (version : Version) (first : Line) (more : List Line) (fault : Option Fault) (known : Fault)
     → fault ≡ Some known → fault_or_publications fault (first_unpublished version more) (publications version more)
     ≡ Err known
 by_fault version first more fault known e =
-    ap (λ (first : Option LineFault). fault_or_publications first (first_unpublished version more)
+    ap (λ (first : Option Fault). fault_or_publications first (first_unpublished version more)
     (publications version more)) e
 
-refused_behind : (version : Option Version) (first : Line) (more : List Line) (fault : LineFault)
+refused_behind : (version : Option Version) (first : Line) (more : List Line) (fault : Fault)
     → option_or (option_map (at_line first.number) (cond (is_some version) None (Some (version_flaw first.words))))
     (first_fault (first ∷ []) more) ≡ Some fault → meaning_behind first more version ≡ Err fault
 refused_behind None first more fault e = let same : at_line first.number (version_flaw first.words) ≡ fault = cc in
-    ap (λ (f : LineFault). Err f) same
+    ap (λ (f : Fault). Err f) same
 refused_behind (Some (Sized size)) first more fault e =
     ap (for_unit size) (by_fault (Sized size) first more (first_fault (first ∷ []) more) fault e)
 refused_behind (Some Headed) first more fault e =
     ap (for_head (head_lines Headed more) (expected_from Headed 0 more) (marks_from Headed 0 more))
     (by_fault Headed first more (first_fault (first ∷ []) more) fault e)
 
-refused : (lines : List Line) (fault : LineFault) → first_fault [] lines ≡ Some fault
+refused : (lines : List Line) (fault : Fault) → first_fault [] lines ≡ Some fault
     → lines_meaning lines ≡ Err fault
 refused [] fault e = absurd cc
 refused (version ∷ more) fault e = refused_behind (version_named version.words) version more fault e
 
-pub least_is_answered : (text : List ℕ) (fault : LineFault) → length text ≤ most_bytes text
+pub least_is_answered : (text : List ℕ) (fault : Fault) → length text ≤ most_bytes text
     → IsLeastFault (fault_at (meant_lines text)) fault → script_meaning text ≡ Err fault
 least_is_answered text fault short least =
     by_lines text short ∙ refused (meant_lines text) fault

@@ -12,7 +12,7 @@ use Rattle.pmp_core.specs.RegisterFile.{RegisterFile}
 use Rattle.pmp_core.specs.RegisterWrite.{step}
 use Rattle.pmp_core.specs.declared.size.Size.{Size}
 use Rattle.pmp_text.specs.declared.flaw.Flaw.{Flaw}
-use Rattle.pmp_text.specs.declared.script.LineFault.{LineFault}
+use Rattle.pmp_text.specs.declared.fault.Fault.{Fault}
 use Rattle.pmp_text.specs.declared.script.statement.Statement.{Statement}
 use Rattle.pmp_text.specs.declared.script.statement.Statement.TheVariants as statement
 use Rattle.pmp_text.specs.declared.script.version.Version.{Version}
@@ -20,7 +20,7 @@ use Rattle.pmp_text.specs.declared.script.version.Version.TheVariants.{Sized, He
 use Rattle.pmp_text.specs.EventLogs.{Kept}
 use Rattle.pmp_text.specs.Lines.{words}
 use Rattle.pmp_text.specs.Longhand.{file_behind, file_said, in_longhand, in_place, longhand, longhand_from, written_out}
-use Rattle.pmp_text.specs.Outcomes.{Gives, out_of_memory}
+use Rattle.pmp_text.specs.Outcomes.{Gives, no_memory}
 use Rattle.pmp_text.specs.declared.script.shorthand.Writes.{Writes}
 use Rattle.pmp_text.specs.ScriptEvents.{event_in, event_of, head_line_in, head_lines}
 use Rattle.pmp_text.specs.ScriptLines.{Line, said_by}
@@ -38,11 +38,11 @@ use Rattle.pmp_text.specs.Steps.Progress.{after_event}
 use Rattle.pmp_text.specs.Flaws.{at_line}
 
 -- what comes of a step and these lines behind it
-abbrev then : Version → List Line → Result Reading LineFault → Result Read LineFault
+abbrev then : Version → List Line → Result Reading Fault → Result Read Fault
 then version more step = elim step [ Ok next ↦ resumed version next more | Err fault ↦ Err fault ]
 
 module _ (version : Version) where
-  by_step : (these more : List Line) (step : Result Reading LineFault)
+  by_step : (these more : List Line) (step : Result Reading Fault)
       → ((next : Reading) → resumed version next (these ++ more) ≡ then version more (after_lines version next these))
       → then version (these ++ more) step
       ≡ then version more (elim step [ Ok next ↦ after_lines version next these | Err fault ↦ Err fault ])
@@ -111,8 +111,8 @@ module _ (so_far : Reading) (before : List Line) (follows : Follows so_far befor
 module _ (these : List Line) (later : (so_far : Reading) (before : List Line) → Follows so_far before → (next : Reading)
     → after_lines Headed so_far these ≡ Ok next → Follows next (before ++ these)) where
   follows_step : (line : Line) (so_far : Reading) (before : List Line) → Follows so_far before → (next : Reading)
-      (step : Result Reading LineFault) → after_line Headed so_far line ≡ step
-      → elim step as (λ _. Result Reading LineFault) [
+      (step : Result Reading Fault) → after_line Headed so_far line ≡ step
+      → elim step as (λ _. Result Reading Fault) [
         | Ok between ↦ after_lines Headed between these
         | Err fault ↦ Err fault
       ] ≡ Ok next → Follows next (before ++ line ∷ these)
@@ -135,10 +135,10 @@ follows_lines (line ∷ these) so_far before follows next e =
 
 -- ---- all lines
 
-abbrev on : Version → List Line → Result Reading LineFault → Result Read LineFault
+abbrev on : Version → List Line → Result Reading Fault → Result Read Fault
 on version more step = elim step [ Ok next ↦ read_on version next more | Err fault ↦ Err fault ]
 
-goes_on : (rest more : List Line) (step : Result Reading LineFault)
+goes_on : (rest more : List Line) (step : Result Reading Fault)
     → ((next : Reading) → step ≡ Ok next → resumed Headed next rest ≡ read_on Headed next more)
     → then Headed rest step ≡ on Headed more step
 goes_on rest more (Ok next) same = same next refl
@@ -155,10 +155,10 @@ reads (line ∷ more) so_far before follows =
     ∙ sym (ap (λ (file : RegisterFile). on Headed more (after_lines Headed so_far (longhand file line)))
     (same_file so_far before follows))
 
-one_by_one : (size : Size) (more : List Line) (step : Result Reading LineFault)
+one_by_one : (size : Size) (more : List Line) (step : Result Reading Fault)
     → ((next : Reading) → resumed (Sized size) next more ≡ read_on (Sized size) next more)
     → then (Sized size) more step
-    ≡ on (Sized size) more (elim step as (λ _. Result Reading LineFault) [ Ok next ↦ Ok next | Err fault ↦ Err fault ])
+    ≡ on (Sized size) more (elim step as (λ _. Result Reading Fault) [ Ok next ↦ Ok next | Err fault ↦ Err fault ])
 one_by_one size more (Ok next) same = same next
 one_by_one size more (Err fault) same = refl
 
@@ -194,18 +194,18 @@ in_place_says line says = refl
 pub refused_in_place : (so_far : Reading) (line : Line) (flaw : Flaw)
     → after_lines Headed so_far (in_place line (Err flaw) ∷ []) ≡ Err (at_line line.number flaw)
 refused_in_place so_far line flaw =
-    ap (λ (says : Result Statement Flaw). elim (after_statement Headed so_far line.number says) as (λ _. Result Reading LineFault) [
+    ap (λ (says : Result Statement Flaw). elim (after_statement Headed so_far line.number says) as (λ _. Result Reading Fault) [
       | Ok next ↦ Ok next
       | Err fault ↦ Err fault
     ]) (in_place_says line (Err flaw))
 
-one_step : (step : Result Reading LineFault)
-    → elim step as (λ _. Result Reading LineFault) [ Ok next ↦ Ok next | Err fault ↦ Err fault ] ≡ step
+one_step : (step : Result Reading Fault)
+    → elim step as (λ _. Result Reading Fault) [ Ok next ↦ Ok next | Err fault ↦ Err fault ] ≡ step
 one_step (Ok next) = refl
 one_step (Err fault) = refl
 
 -- events in the place of a line are taken, one after the other
-abbrev behind : Line → List Line → Result Reading LineFault → Result Reading LineFault
+abbrev behind : Line → List Line → Result Reading Fault → Result Reading Fault
 behind line more step = elim step [ Ok next ↦ after_lines Headed next more | Err fault ↦ Err fault ]
 
 in_place_too : (so_far : Reading) (line : Line) (event : Event) (more : List Line)
@@ -222,10 +222,10 @@ one_in_place so_far line event =
     in_place_too so_far line event [] ∙ one_step (after_event Headed so_far line.number event)
 
 module _ (so_far : Reading) (line : Line) (writes : Writes) where
-  abbrev read_here : Option Event → Result Reading LineFault
+  abbrev read_here : Option Event → Result Reading Fault
   read_here address = after_lines Headed so_far (written_out line (Ok (record { address = address; last = writes.last })))
 
-  abbrev all_here : Result Reading LineFault
+  abbrev all_here : Result Reading Fault
   all_here = after_lines Headed so_far (written_out line (Ok writes))
 
   one_write : writes.address ≡ None → all_here ≡ after_event Headed so_far line.number writes.last
@@ -237,25 +237,25 @@ module _ (so_far : Reading) (line : Line) (writes : Writes) where
         (after_event Headed so_far line.number address)
     two_writes = ap read_here first ∙ in_place_too so_far line address (in_place line (Ok (statement.Event writes.last)) ∷ [])
 
-    pub first_refused : (fault : LineFault)
-        → (after_event Headed so_far line.number address ≡ Err fault) ⊎ (fault ≡ out_of_memory)
-        → (all_here ≡ Err fault) ⊎ (fault ≡ out_of_memory)
+    pub first_refused : (fault : Fault)
+        → (after_event Headed so_far line.number address ≡ Err fault) ⊎ (fault ≡ no_memory)
+        → (all_here ≡ Err fault) ⊎ (fault ≡ no_memory)
     first_refused fault (inl refused) =
         inl (two_writes ∙ ap (behind line (in_place line (Ok (statement.Event writes.last)) ∷ [])) refused)
     first_refused fault (inr memory) = inr memory
 
-    pub both_taken : {X : Type 0} (view : X → Reading) (result : Result X LineFault) (next : Reading)
+    pub both_taken : {X : Type 0} (view : X → Reading) (result : Result X Fault) (next : Reading)
         → after_event Headed so_far line.number address ≡ Ok next
         → Gives view result (after_event Headed next line.number writes.last) → Gives view result all_here
     both_taken view result next taken given =
-        subst (λ (meant : Result Reading LineFault). Gives view result meant)
+        subst (λ (meant : Result Reading Fault). Gives view result meant)
         (sym (two_writes ∙ ap (behind line (in_place line (Ok (statement.Event writes.last)) ∷ [])) taken
         ∙ one_in_place next line writes.last)) given
 
-  pub one_taken : {X : Type 0} (view : X → Reading) (result : Result X LineFault) → writes.address ≡ None
+  pub one_taken : {X : Type 0} (view : X → Reading) (result : Result X Fault) → writes.address ≡ None
       → Gives view result (after_event Headed so_far line.number writes.last) → Gives view result all_here
   one_taken view result none given =
-      subst (λ (meant : Result Reading LineFault). Gives view result meant) (sym (one_write none)) given
+      subst (λ (meant : Result Reading Fault). Gives view result meant) (sym (one_write none)) given
 
 -- a line that stands for itself
 pub one_line : (version : Version) (so_far : Reading) (line : NumberedLine)

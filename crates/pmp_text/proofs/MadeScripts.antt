@@ -4,7 +4,7 @@ use Rattle.std.proofs.Common.{◌∙◌}
 use Rattle.std.proofs.Common.{inl, inr}
 use Rattle.std.proofs.lemmas.Bool.{cases_lt}
 use Rattle.pmp_core.specs.declared.size.Size.{Size}
-use Rattle.pmp_text.specs.declared.script.LineFault.{LineFault}
+use Rattle.pmp_text.specs.declared.fault.Fault.{Fault}
 use Rattle.pmp_text.specs.declared.script.version.Version.{Version}
 use Rattle.pmp_text.specs.declared.script.version.Version.TheVariants.{Sized, Headed}
 use Rattle.pmp_text.specs.Contents.{Publications, ScriptContents}
@@ -34,7 +34,7 @@ pub record IsMade (first : Line) (more : List Line) (version : Version) (script 
   pub begins : Begins version more script
   pub published : published_behind first more version ≡ Ok (published_in script)
 
-as_made : (made script : ScriptContents) → ◌≡◌ {A = Result ScriptContents LineFault} (Ok made) (Ok script) → made ≡ script
+as_made : (made script : ScriptContents) → ◌≡◌ {A = Result ScriptContents Fault} (Ok made) (Ok script) → made ≡ script
 as_made made script e = cc
 
 module _ (first : Line) (more : List Line) (script : ScriptContents) where
@@ -48,23 +48,23 @@ module _ (first : Line) (more : List Line) (script : ScriptContents) where
     marks = Some marks;
   }
 
-  abbrev begun : Result RegisterFile LineFault → Publications → List Expectation → List Mark
-      → Result ScriptContents LineFault
+  abbrev begun : Result RegisterFile Fault → Publications → List Expectation → List Mark
+      → Result ScriptContents Fault
   begun started published expectations marks =
       elim started [ Ok start ↦ Ok (headed start published expectations marks) | Err fault ↦ Err fault ]
 
-  without_fault : (bits fault : Option LineFault) (start : RegisterFile) (published : Publications)
+  without_fault : (bits fault : Option Fault) (start : RegisterFile) (published : Publications)
       (expectations : List Expectation) (marks : List Mark)
-      → begun (elim bits as (λ _. Result RegisterFile LineFault) [
+      → begun (elim bits as (λ _. Result RegisterFile Fault) [
         | Some it ↦ Err it
-        | None ↦ elim fault as (λ _. Result RegisterFile LineFault) [ Some it ↦ Err it | None ↦ Ok start ]
+        | None ↦ elim fault as (λ _. Result RegisterFile Fault) [ Some it ↦ Err it | None ↦ Ok start ]
       ]) published expectations marks ≡ Ok script
       → headed start published expectations marks ≡ script
   without_fault None None start published expectations marks e = as_made _ script e
   without_fault None (Some it) start published expectations marks e = absurd cc
   without_fault (Some it) fault start published expectations marks e = absurd cc
 
-  of_unit : (size : Size) (read : Result Publications LineFault) → published_behind first more (Sized size) ≡ read
+  of_unit : (size : Size) (read : Result Publications Fault) → published_behind first more (Sized size) ≡ read
       → for_unit size read ≡ Ok script → IsMade first more (Sized size) script
   of_unit size (Ok all) was e =
       let is = as_made _ script e in
@@ -79,7 +79,7 @@ module _ (first : Line) (more : List Line) (script : ScriptContents) where
       }
   of_unit size (Err fault) was e = absurd cc
 
-  of_head : (read : Result Publications LineFault) → published_behind first more Headed ≡ read
+  of_head : (read : Result Publications Fault) → published_behind first more Headed ≡ read
       → for_head (head_lines Headed more) (expected_from Headed 0 more) (marks_from Headed 0 more) read ≡ Ok script
       → IsMade first more Headed script
   of_head (Ok all) was e =
@@ -138,7 +138,7 @@ is_read text script e = elim (cases_lt (most_bytes text) (length text)) [
 ]
 
 -- lines that publish something have no fault, and leave no event behind the last `publish`
-pub faultless : {X : Type 0} (fault : Option LineFault) (unpublished : Option ℕ) (all read : X)
+pub faultless : {X : Type 0} (fault : Option Fault) (unpublished : Option ℕ) (all read : X)
     → fault_or_publications fault unpublished all ≡ Ok read → (fault ≡ None) × (unpublished ≡ None) × (all ≡ read)
 faultless (Some fault) unpublished all read e = absurd cc
 faultless None (Some number) all read e = absurd cc

@@ -9,7 +9,7 @@ use Rattle.pmp_core.specs.declared.size.Size.{Size}
 use Rattle.pmp_core.specs.declared.size.Size.TheVariants.{Sixteen}
 use Rattle.pmp_text.specs.declared.flaw.Flaw.{Flaw}
 use Rattle.pmp_text.specs.declared.refusal.Refusal.TheVariants.{BadVersion, BadLine, TooLong}
-use Rattle.pmp_text.specs.declared.script.LineFault.{LineFault}
+use Rattle.pmp_text.specs.declared.fault.Fault.{Fault}
 use Rattle.pmp_text.specs.declared.script.statement.Statement.{Statement}
 use Rattle.pmp_text.specs.declared.script.version.Version.{Version}
 use Rattle.pmp_text.specs.declared.script.version.Version.TheVariants.{Sized, Headed}
@@ -54,11 +54,11 @@ no_statement (name ∷ number ∷ word ∷ more) version e any = absurd cc
 
 -- ---- what is concluded
 
-abbrev of_version : Version → Read → Result Publications LineFault → Result ScriptContents LineFault
+abbrev of_version : Version → Read → Result Publications Fault → Result ScriptContents Fault
 of_version (Sized size) read = for_unit size
 of_version Headed read = for_head read.head read.expectations read.marks
 
-concludes : (version : Version) (read : Read) (fault : Option LineFault) (unpublished : Option ℕ)
+concludes : (version : Version) (read : Read) (fault : Option Fault) (unpublished : Option ℕ)
     → of_version version read (fault_or_publications fault unpublished read.published)
     ≡ concluded version (fault_or_publications fault unpublished read)
 concludes (Sized size) read (Some fault) unpublished = refl

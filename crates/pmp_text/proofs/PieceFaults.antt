@@ -6,9 +6,9 @@ use Rattle.std.specs.List.{position_from}
 use Rattle.std.specs.Option.{option_or}
 use Rattle.std.proofs.lemmas.List.{length-append}
 use Rattle.std.proofs.lemmas.List.Elements.{filter_map-append}
-use Rattle.pmp_text.specs.declared.trace.RowFault.{RowFault}
+use Rattle.pmp_text.specs.declared.fault.Fault.{Fault}
 use Rattle.pmp_text.specs.declared.refusal.Refusal.TheVariants.{BadHeader, BadRow}
-use Rattle.pmp_text.specs.declared.trace.rows.Place.{Place}
+use Rattle.pmp_text.specs.declared.trace.rows.Position.{Position}
 use Rattle.pmp_text.specs.LongTraces.{HasTooManyRows, Records, first_fault_at, has_begun, is_bare_record, last_after}
 use Rattle.pmp_text.specs.Tables.{is_line_end}
 use Rattle.pmp_text.specs.LongTraces.{piece_fault, place_behind, row_records}
@@ -19,6 +19,7 @@ use Rattle.pmp_text.proofs.BrokenRows.{no_row, no_header}
 use Rattle.pmp_text.proofs.CutTexts.{IsApart, cut_in_two}
 use Rattle.pmp_text.specs.Tables.{is_broken}
 use Rattle.pmp_text.specs.Flaws.{at_row, as_whole}
+use Rattle.pmp_text.specs.declared.fault.Source.TheVariants as source
 
 -- of two fronts of a list one begins the other
 in_front : (front known : Records) (one : List (List ℕ)) (rest behind : Records) → known ++ one ∷ rest ≡ front ++ behind
@@ -38,7 +39,7 @@ or_assoc (Some fault) y z = refl
 
 module _ (moments : KnownMoments) where
   pub behind : (named : Bool) (last : Option ℕ) (next : ℕ) (rows : Records)
-      → cond named (first_row_fault moments last next rows) (Some (at_row 0 (as_whole BadHeader))) ≡ None
+      → cond named (first_row_fault moments last next rows) (Some (at_row source.Trace 0 (as_whole BadHeader))) ≡ None
       → first_row_fault moments last next rows ≡ None
   behind true last next rows e = e
   behind false last next rows e = absurd cc
@@ -56,7 +57,7 @@ module _ (moments : KnownMoments) where
       (first_row_fault moments (last_after moments last rows) (next + length rows) more)
   rows_in_turn [] more last next = from_next more last next
   rows_in_turn (row ∷ rows) more last next =
-      let here = option_map (at_row next) (row_fault moments.publications last (row_in moments row)) in
+      let here = option_map (at_row source.Trace next) (row_fault moments.publications last (row_in moments row)) in
       let after = after_of (row_of_record moments row) in
       let number : next + 1 + length rows ≡ next + suc (length rows) = omega arith in
       ap (option_or here) (rows_in_turn rows more after (next + 1))
@@ -66,13 +67,13 @@ module _ (moments : KnownMoments) where
       (first_row_fault moments (last_after moments after rows) n more)) number
 
   module _ (last : Option ℕ) (next : ℕ) where
-    abbrev next_fault : Bool → Records → Records → Option RowFault
+    abbrev next_fault : Bool → Records → Records → Option Fault
     next_fault begun records more = first_fault_at moments (has_begun begun records)
         (last_after moments last (row_records begun records)) (next + length (row_records begun records)) more
 
     by_header : (named : Bool) (rows more : Records)
-        → cond named (first_row_fault moments last next (rows ++ more)) (Some (at_row 0 (as_whole BadHeader)))
-        ≡ option_or (cond named (first_row_fault moments last next rows) (Some (at_row 0 (as_whole BadHeader))))
+        → cond named (first_row_fault moments last next (rows ++ more)) (Some (at_row source.Trace 0 (as_whole BadHeader)))
+        ≡ option_or (cond named (first_row_fault moments last next rows) (Some (at_row source.Trace 0 (as_whole BadHeader))))
         (first_row_fault moments (last_after moments last rows) (next + length rows) more)
     by_header true rows more = rows_in_turn rows more last next
     by_header false rows more = refl
@@ -87,8 +88,8 @@ module _ (moments : KnownMoments) where
 
   -- ---- a broken record
 
-  abbrev broken_fault : Bool → ℕ → RowFault
-  broken_fault begun next = cond begun (at_row next (as_whole BadRow)) (at_row 0 (as_whole BadHeader))
+  abbrev broken_fault : Bool → ℕ → Fault
+  broken_fault begun next = cond begun (at_row source.Trace next (as_whole BadRow)) (at_row source.Trace 0 (as_whole BadHeader))
 
   broken_here : (begun : Bool) (last : Option ℕ) (next : ℕ) (one : List (List ℕ)) (rest : Records)
       → is_broken one ≡ true
@@ -96,25 +97,25 @@ module _ (moments : KnownMoments) where
   broken_here true last next one rest e = rw (no_row moments one e) refl
   broken_here false last next one rest e = rw (no_header one e) refl
 
-  abbrev fault_with : Place → Records → Option RowFault
+  abbrev fault_with : Position → Records → Option Fault
   fault_with place front = option_or (piece_fault moments place front)
       (Some (broken_fault (has_begun place.begun front) (place.next + length (row_records place.begun front))))
 
   -- a broken record has the same fault, however it goes on
-  pub broken_in_turn : (place : Place) (front : Records) (one : List (List ℕ)) (rest : Records)
+  pub broken_in_turn : (place : Position) (front : Records) (one : List (List ℕ)) (rest : Records)
       → is_broken one ≡ true → piece_fault moments place (front ++ one ∷ rest) ≡ fault_with place front
   broken_in_turn place front one rest e = in_turn place.last place.next place.begun front (one ∷ rest)
       ∙ ap (option_or (piece_fault moments place front)) (broken_here (has_begun place.begun front)
       (last_after moments place.last (row_records place.begun front))
       (place.next + length (row_records place.begun front)) one rest e)
 
-  some_or : (x : Option RowFault) (fault : RowFault) → option_or x (Some fault) ≡ None → ⊥
+  some_or : (x : Option Fault) (fault : Fault) → option_or x (Some fault) ≡ None → ⊥
   some_or None fault e = absurd cc
   some_or (Some other) fault e = absurd cc
 
   -- ---- a piece that ends at a line's end
 
-  module _ (place : Place) (bytes : List ℕ) (e : ℕ) (ends : is_line_end e ≡ true) where
+  module _ (place : Position) (bytes : List ℕ) (e : ℕ) (ends : is_line_end e ≡ true) where
     pub apart : piece_fault moments place (records_of (bytes ++ e ∷ [])) ≡ None → IsApart bytes e
     apart fine = elim (cut_in_two bytes e ends) [
       | inl in_two ↦ in_two
@@ -144,12 +145,12 @@ module _ (moments : KnownMoments) where
           )
     ]
 
-    pub fault_stays : (fault : RowFault) → piece_fault moments place (records_of (bytes ++ e ∷ [])) ≡ Some fault
+    pub fault_stays : (fault : Fault) → piece_fault moments place (records_of (bytes ++ e ∷ [])) ≡ Some fault
         → (more : List ℕ) → piece_fault moments place (records_of (bytes ++ e ∷ more)) ≡ Some fault
     fault_stays fault found more = elim (cut_in_two bytes e ends) [
       | inl in_two ↦ ap (piece_fault moments place) (in_two more)
           ∙ in_turn place.last place.next place.begun (records_of (bytes ++ e ∷ [])) (records_of (e ∷ more))
-          ∙ ap (λ (x : Option RowFault). option_or x (next_fault place.last place.next place.begun
+          ∙ ap (λ (x : Option Fault). option_or x (next_fault place.last place.next place.begun
           (records_of (bytes ++ e ∷ [])) (records_of (e ∷ more)))) found
       | inr (front, goes_on) ↦
           let (one, rest, are, broken) = goes_on [] in
@@ -211,7 +212,7 @@ module _ {X : Type 0} (test : X → Bool) where
           later ∙ ap (λ (n : ℕ). position_from test n xs) number
 
 -- where records stand that follow on records
-pub places_in_turn : (moments : KnownMoments) (place : Place) (records more : Records)
+pub places_in_turn : (moments : KnownMoments) (place : Position) (records more : Records)
     → place_behind moments place (records ++ more) ≡ place_behind moments (place_behind moments place records) more
 places_in_turn moments place records more =
     let is_bare = is_bare_record moments in
@@ -239,7 +240,7 @@ places_in_turn moments place records more =
     })
 
 -- too many rows behind records without a fault are too many with them
-pub too_many_behind : (moments : KnownMoments) (place : Place) (records more : Records)
+pub too_many_behind : (moments : KnownMoments) (place : Position) (records more : Records)
     → piece_fault moments place records ≡ None → HasTooManyRows moments (place_behind moments place records) more
     → HasTooManyRows moments place (records ++ more)
 too_many_behind moments place records more fine many =
@@ -248,8 +249,8 @@ too_many_behind moments place records more fine many =
       behind = many.behind;
       are = ap (λ (l : Records). records ++ l) many.are ∙ sym (append_assoc records many.front many.behind);
       fine = in_turn moments place.last place.next place.begun records many.front
-          ∙ ap (λ (x : Option RowFault). option_or x (piece_fault moments behind many.front)) fine ∙ many.fine;
-      many = subst (λ (p : Place). 2 ^ 64 ≤ p.next) (sym (places_in_turn moments place records many.front)) many.many;
+          ∙ ap (λ (x : Option Fault). option_or x (piece_fault moments behind many.front)) fine ∙ many.fine;
+      many = subst (λ (p : Position). 2 ^ 64 ≤ p.next) (sym (places_in_turn moments place records many.front)) many.many;
     }
 
 pub rows_in_two : (moments : KnownMoments) (begun : Bool) (records more : Records)

@@ -6,7 +6,7 @@ use Rattle.std.specs.Option.{option_or}
 use Rattle.std.specs.List.{cons_option, onto_first}
 use Rattle.std.proofs.lemmas.List.{append-nil}
 use Rattle.pmp_text.specs.declared.flaw.Flaw.{Flaw}
-use Rattle.pmp_text.specs.declared.script.LineFault.{LineFault}
+use Rattle.pmp_text.specs.declared.fault.Fault.{Fault}
 use Rattle.pmp_text.specs.declared.script.statement.Statement.{Statement}
 use Rattle.pmp_text.specs.declared.script.statement.Statement.TheVariants as statement
 use Rattle.pmp_text.specs.declared.expectation.Expectation.{Expectation}
@@ -46,15 +46,15 @@ module _ (version : Version) where
   same_read p q h k e f m n same_p same_h same_e same_m = λ i. read_of (same_p i) (same_h i) (same_e i) (same_m i)
 
   -- what is meant by lines that have this first fault, or none
-  abbrev meant_by : Reading → Option LineFault → List Line → List (List Line) → Result Read LineFault
+  abbrev meant_by : Reading → Option Fault → List Line → List (List Line) → Result Read Fault
   meant_by so_far fault lines pieces =
       fault_or_publications fault (since_from version so_far.progress.since pieces) (read_from so_far lines pieces)
 
   -- what is meant by lines behind others
-  abbrev meant_from : Reading → (before lines : List Line) → Result Read LineFault
+  abbrev meant_from : Reading → (before lines : List Line) → Result Read Fault
   meant_from so_far before lines = meant_by so_far (first_fault before lines) lines (pieces_of version lines)
 
-  same_meant : (fault : Option LineFault) (since other : Option ℕ) (read again : Read) → since ≡ other → read ≡ again
+  same_meant : (fault : Option Fault) (since other : Option ℕ) (read again : Read) → since ≡ other → read ≡ again
       → fault_or_publications fault since read ≡ fault_or_publications fault other again
   same_meant fault since other read again same_since same_read =
       λ i. fault_or_publications fault (same_since i) (same_read i)
@@ -64,7 +64,7 @@ module _ (version : Version) where
   read_alone lines = read_of (publications version lines) (head_lines version lines) (expected_from version 0 lines)
       (marks_from version 0 lines)
 
-  abbrev pub meant_alone : (before lines : List Line) → Result Read LineFault
+  abbrev pub meant_alone : (before lines : List Line) → Result Read Fault
   meant_alone before lines =
       fault_or_publications (first_fault before lines) (first_unpublished version lines) (read_alone lines)
 
@@ -79,11 +79,11 @@ module _ (version : Version) where
   -- reading this line and then the rest, against what is meant by them
   module _ (so_far : Reading) (last : Line) (front : List Line) (above : version_above (last ∷ front) ≡ version)
       (knows : Knows version so_far (last ∷ front)) (line : Line) (more : List Line) where
-    abbrev reads : Result Reading LineFault → Result Read LineFault
+    abbrev reads : Result Reading Fault → Result Read Fault
     reads step = elim step [ Ok next ↦ resumed version next more | Err fault ↦ Err fault ]
 
     -- the first fault behind the line
-    abbrev later : Option LineFault
+    abbrev later : Option Fault
     later = first_fault (line ∷ last ∷ front) more
 
     -- the pieces with the line, which is a `publish` or not
@@ -91,7 +91,7 @@ module _ (version : Version) where
     cut publish = cond publish ([] ∷ pieces_of version more) (onto_first line (pieces_of version more))
 
     -- what comes of the line, with this fault or none
-    abbrev meant_with : (publish : Bool) → Option Flaw → Result Read LineFault
+    abbrev meant_with : (publish : Bool) → Option Flaw → Result Read Fault
     meant_with publish fault =
         meant_by so_far (option_or (option_map (at_line line.number) fault) later) (line ∷ more) (cut publish)
 

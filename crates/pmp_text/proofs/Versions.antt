@@ -12,7 +12,7 @@ use Rattle.pmp_core.specs.declared.size.Size.{Size}
 use Rattle.pmp_core.specs.declared.size.Size.TheVariants.{Sixteen, SixtyFour}
 use Rattle.pmp_core.specs.Histories.{joined}
 use Rattle.pmp_core.specs.SizeLaw.{DecideAlike, SizeLaw, writes_first}
-use Rattle.pmp_text.specs.declared.script.LineFault.{LineFault}
+use Rattle.pmp_text.specs.declared.fault.Fault.{Fault}
 use Rattle.pmp_text.specs.declared.refusal.Refusal.TheVariants.{TooLong}
 use Rattle.pmp_text.specs.declared.trace.TraceRow.{TraceRow}
 use Rattle.pmp_text.specs.Contents.{Publications, ScriptContents}
@@ -62,7 +62,7 @@ names_one = refl
 
 -- ---- version 1
 
-abbrev read_lines : Line → List Line → Result Publications LineFault
+abbrev read_lines : Line → List Line → Result Publications Fault
 read_lines version more = published_behind version more (Sized Sixteen)
 
 lines_in_one : (version : Line) (more : List Line) → version.words ≡ one_says
@@ -76,7 +76,7 @@ module _ (text : List ℕ) (is : IsVersionOne text) where
   named_one : version_named is.version.words ≡ Some (Sized Sixteen)
   named_one = ap version_named is.says ∙ names_sixteen
 
-  by_length : (long : Bool) (ls : Result ScriptContents LineFault) (in_one : Result Publications LineFault)
+  by_length : (long : Bool) (ls : Result ScriptContents Fault) (in_one : Result Publications Fault)
       → ls ≡ for_unit Sixteen in_one → cond long (Err (at_line 0 (as_whole TooLong))) ls
       ≡ for_unit Sixteen (cond long (Err (at_line 0 (as_whole TooLong))) in_one)
   by_length true ls in_one same = refl
@@ -169,11 +169,11 @@ unfolding significant_from
 lines_behind text ls e = ap (significant 1) e
 
 -- what comes of a step and these lines behind it
-abbrev on : Size → List Line → Result Reading LineFault → Result Read LineFault
+abbrev on : Size → List Line → Result Reading Fault → Result Read Fault
 on size more step = elim step [ Ok next ↦ resumed (Sized size) next more | Err fault ↦ Err fault ]
 
 -- reading goes on alike for both sizes
-goes_alike : (step : Result Reading LineFault) (more : List Line)
+goes_alike : (step : Result Reading Fault) (more : List Line)
     → ((so_far : Reading) → resumed (Sized Sixteen) so_far more ≡ resumed (Sized SixtyFour) so_far more)
     → on Sixteen more step ≡ on SixtyFour more step
 goes_alike (Ok next) more alike = alike next
@@ -219,12 +219,12 @@ of_size size all = record {
 }
 
 -- what was read of a script of version 1
-record WasRead (script : ScriptContents) (read : Result Read LineFault) : Type 0 where
+record WasRead (script : ScriptContents) (read : Result Read Fault) : Type 0 where
   all : Read
   reads : read ≡ Ok all
   is : of_size Sixteen all ≡ script
 
-was_read : (read : Result Read LineFault) (script : ScriptContents) → concluded (Sized Sixteen) read ≡ Ok script
+was_read : (read : Result Read Fault) (script : ScriptContents) → concluded (Sized Sixteen) read ≡ Ok script
     → WasRead script read
 was_read (Ok all) script e = record { all = all; reads = refl; is = cc }
 was_read (Err fault) script e = absurd cc

@@ -6,14 +6,14 @@ use Rattle.std.proofs.lemmas.List.{length-append, map-append}
 use Rattle.std.specs.Prelude.{filter_map}
 use Rattle.pmp_text.specs.declared.refusal.Refusal.TheVariants.{BadHeader}
 use Rattle.pmp_text.specs.declared.trace.TraceRow.{TraceRow}
-use Rattle.pmp_text.specs.declared.trace.RowFault.{RowFault}
-use Rattle.pmp_text.specs.declared.trace.rows.Place.{Place}
+use Rattle.pmp_text.specs.declared.fault.Fault.{Fault}
+use Rattle.pmp_text.specs.declared.trace.rows.Position.{Position}
 use Rattle.pmp_text.specs.declared.trace.reader.TheConstants.{MAX_TRACE}
 use Rattle.pmp_text.specs.Flaws.{as_whole, at_row}
 use Rattle.pmp_text.specs.LongTraces.{IsHeaded, Records, beginning, has_begun, long_meaning, long_rows_meaning}
 use Rattle.pmp_text.specs.LongTraces.{piece_fault, row_records, too_long_for_rows}
 use Rattle.pmp_text.specs.Moments.{KnownMoments}
-use Rattle.pmp_text.specs.Outcomes.{no_input_for_rows, no_memory_for_rows}
+use Rattle.pmp_text.specs.Outcomes.{no_memory}
 use Rattle.pmp_text.specs.RowsLeft.{IsNextRow, IsOutOfNumbers, RowsLeft}
 use Rattle.pmp_text.specs.Tables.{fault_or_rows, records_of}
 use Rattle.pmp_text.specs.Traces.{first_row_fault, is_header, row_fault, row_fields, row_in, row_of_record, rows_meaning}
@@ -21,19 +21,20 @@ use Rattle.pmp_text.specs.Traces.{trace_meaning}
 use Rattle.pmp_text.specs.declared.trace.row_fields.RowFields.{RowFields}
 use Rattle.pmp_text.proofs.CutTexts.{few_records}
 use Rattle.pmp_text.proofs.Rows.{by_records, trace_is}
+use Rattle.pmp_text.specs.declared.fault.Source.TheVariants as source
 
 -- the first fault of all records is what they mean
-pub faulty_records : (moments : KnownMoments) (first : ℕ) (records : Records) (fault : RowFault)
+pub faulty_records : (moments : KnownMoments) (first : ℕ) (records : Records) (fault : Fault)
     → piece_fault moments (beginning first) records ≡ Some fault
     → long_meaning moments first records ≡ Err fault
 faulty_records moments first [] fault e = absurd cc
 faulty_records moments first (header ∷ rows) fault e = by (is_header header) e
   where
     by : (named : Bool)
-        → cond named (first_row_fault moments None first rows) (Some (at_row 0 (as_whole BadHeader))) ≡ Some fault
-        → cond named (long_rows_meaning moments first rows) (Err (at_row 0 (as_whole BadHeader))) ≡ Err fault
-    by true e = ap (λ (f : Option RowFault). fault_or_rows f (filter_map (row_of_record moments) rows)) e
-    by false e = let same : at_row 0 (as_whole BadHeader) ≡ fault = cc in ap Err same
+        → cond named (first_row_fault moments None first rows) (Some (at_row source.Trace 0 (as_whole BadHeader))) ≡ Some fault
+        → cond named (long_rows_meaning moments first rows) (Err (at_row source.Trace 0 (as_whole BadHeader))) ≡ Err fault
+    by true e = ap (λ (f : Option Fault). fault_or_rows f (filter_map (row_of_record moments) rows)) e
+    by false e = let same : at_row source.Trace 0 (as_whole BadHeader) ≡ fault = cc in ap Err same
 
 pub fine_records : (moments : KnownMoments) (first : ℕ) (records : Records)
     → piece_fault moments (beginning first) records ≡ None → has_begun false records ≡ true
@@ -42,10 +43,10 @@ fine_records moments first [] e begun = absurd cc
 fine_records moments first (header ∷ rows) e begun = by (is_header header) e
   where
     by : (named : Bool)
-        → cond named (first_row_fault moments None first rows) (Some (at_row 0 (as_whole BadHeader))) ≡ None
-        → cond named (long_rows_meaning moments first rows) (Err (at_row 0 (as_whole BadHeader)))
+        → cond named (first_row_fault moments None first rows) (Some (at_row source.Trace 0 (as_whole BadHeader))) ≡ None
+        → cond named (long_rows_meaning moments first rows) (Err (at_row source.Trace 0 (as_whole BadHeader)))
         ≡ Ok (filter_map (row_of_record moments) rows)
-    by true e = ap (λ (f : Option RowFault). fault_or_rows f (filter_map (row_of_record moments) rows)) e
+    by true e = ap (λ (f : Option Fault). fault_or_rows f (filter_map (row_of_record moments) rows)) e
     by false e = absurd cc
 
 pub no_records : (records : Records) → has_begun false records ≡ false → records ≡ []
@@ -97,13 +98,13 @@ one_row_more moments first all rows before after row read is =
     record {
       same = is.moments ∙ read.same;
       fault = read.fault ∙ ap here is.next ∙ later
-          ∙ ap (λ (p : Place). first_row_fault moments p.last p.next after.records) (sym is.place);
+          ∙ ap (λ (p : Position). first_row_fault moments p.last p.next after.records) (sym is.place);
       said = read.said ∙ ap (λ (l : Records). map row_fields rows ++ filter_map (row_of_record moments) l) is.next
           ∙ ap (λ (l : List RowFields). map row_fields rows ++ l) row_said
           ∙ sym (ap (λ (l : List RowFields). l ++ others) (map-append row_fields rows (row ∷ []))
           ∙ append_assoc (map row_fields rows) (row_fields row ∷ []) others);
       count =
-          let number : after.place.next ≡ before.place.next + 1 = ap (λ (p : Place). p.next) is.place in
+          let number : after.place.next ≡ before.place.next + 1 = ap (λ (p : Position). p.next) is.place in
           let size = ap (λ (l : Records). length l) is.next in
           let count = read.count in
           omega arith;
@@ -117,20 +118,18 @@ module _ (moments : KnownMoments) (first : ℕ) (all : Records) (numbered : firs
       let fine = read.fault ∙ ap (first_row_fault moments left.place.last left.place.next) none in
       let said = read.said ∙ ap (λ (l : Records). map row_fields rows ++ filter_map (row_of_record moments) l) none
       ∙ append-nil (map row_fields rows) in
-      ap (λ (f : Option RowFault). fault_or_rows f (filter_map (row_of_record moments) all)) fine ∙ ap Ok said
+      ap (λ (f : Option Fault). fault_or_rows f (filter_map (row_of_record moments) all)) fine ∙ ap Ok said
 
-  pub not_read : (fault : RowFault)
+  pub not_read : (fault : Fault)
       → (first_row_fault left.moments left.place.last left.place.next left.records ≡ Some fault)
-      ⊎ (fault ≡ no_memory_for_rows) ⊎ (fault ≡ no_input_for_rows)
+      ⊎ (fault ≡ no_memory)
       ⊎ ((fault ≡ too_long_for_rows) × IsOutOfNumbers left)
-      → (long_rows_meaning moments first all ≡ Err fault) ⊎ (fault ≡ no_memory_for_rows)
-      ⊎ (fault ≡ no_input_for_rows)
+      → (long_rows_meaning moments first all ≡ Err fault) ⊎ (fault ≡ no_memory)
   not_read fault (inl e) =
       let found = read.fault ∙ rw read.same at e in
-      inl (ap (λ (f : Option RowFault). fault_or_rows f (filter_map (row_of_record moments) all)) found)
-  not_read fault (inr (inl memory)) = inr (inl memory)
-  not_read fault (inr (inr (inl input))) = inr (inr input)
-  not_read fault (inr (inr (inr (long, out)))) =
+      inl (ap (λ (f : Option Fault). fault_or_rows f (filter_map (row_of_record moments) all)) found)
+  not_read fault (inr (inl memory)) = inr memory
+  not_read fault (inr (inr (long, out))) =
       let count = read.count in
       let size = ap (λ (l : Records). length l) out.next in
       let many = out.many in
@@ -145,22 +144,22 @@ behind_is moments first (header ∷ rows) begun headed = rw headed refl
 
 module _ (moments : KnownMoments) (text : List ℕ) (short : length text ≤ MAX_TRACE) where
   pub meaning_is : trace_meaning moments text ≡ long_meaning moments 1 (records_of text)
-  meaning_is = trace_is moments text ∙ by_records is_header (rows_meaning moments) text short
+  meaning_is = trace_is moments text ∙ by_records source.Trace is_header (rows_meaning moments) text short
 
   abbrev all : Records
   all = records_of text
 
   pub without_header : has_begun false all ≡ false
-      → trace_meaning moments text ≡ Err (at_row 0 (as_whole BadHeader))
+      → trace_meaning moments text ≡ Err (at_row source.Trace 0 (as_whole BadHeader))
   without_header begun = meaning_is ∙ ap (long_meaning moments 1) (no_records all begun)
 
-  pub found : (fault : RowFault) → piece_fault moments (beginning 1) all ≡ Some fault
+  pub found : (fault : Fault) → piece_fault moments (beginning 1) all ≡ Some fault
       → trace_meaning moments text ≡ Err fault
   found fault e = meaning_is ∙ faulty_records moments 1 all fault e
 
-  pub not_opened : (fault : RowFault) → (piece_fault moments (beginning 1) all ≡ Some fault)
-      ⊎ (fault ≡ no_memory_for_rows) ⊎ (fault ≡ no_input_for_rows)
-      → (trace_meaning moments text ≡ Err fault) ⊎ (fault ≡ no_memory_for_rows) ⊎ (fault ≡ no_input_for_rows)
+  pub not_opened : (fault : Fault) → (piece_fault moments (beginning 1) all ≡ Some fault)
+      ⊎ (fault ≡ no_memory)
+      → (trace_meaning moments text ≡ Err fault) ⊎ (fault ≡ no_memory)
   not_opened fault (inl e) = inl (found fault e)
   not_opened fault (inr refused) = inr refused
 

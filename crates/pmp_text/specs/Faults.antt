@@ -1,7 +1,7 @@
 -- Which line of a script is at fault.
 use Rattle.std.specs.Prelude.{◌≡◌, ℕ, ◌<◌, ◌≤◌, List, [], length, reverse, take, Option, Some, None, Err, MatchOption}
 use Rattle.std.specs.Prelude.{option_map, option_and_then, slice_get}
-use Rattle.pmp_text.specs.declared.script.LineFault.{LineFault}
+use Rattle.pmp_text.specs.declared.fault.Fault.{Fault}
 use Rattle.pmp_text.specs.ScriptLines.{Line}
 use Rattle.pmp_text.specs.Longhand.{meant_lines}
 use Rattle.pmp_text.specs.ScriptFaults.{line_fault, first_fault}
@@ -9,8 +9,8 @@ use Rattle.pmp_text.specs.Scripts.{most_bytes, script_meaning}
 use Rattle.pmp_text.specs.Flaws.{at_line}
 
 -- the fault of the line with this index, given the lines before it
-abbrev pub fault_at : List Line → (index : ℕ) → Option LineFault
-fault_at lines index = option_and_then {T = Line} {U = LineFault}
+abbrev pub fault_at : List Line → (index : ℕ) → Option Fault
+fault_at lines index = option_and_then {T = Line} {U = Fault}
     (λ line. option_map (at_line line.number) (line_fault (reverse (take index lines)) line)) (slice_get lines index)
 
 -- the line, or row, with this index has the fault, and none before it has any
@@ -27,5 +27,5 @@ FirstFaultLaw = (lines : List Line)
 
 -- a text that isn't too long is refused with the fault of its first faulty line, in longhand, if it has one
 abbrev pub LeastFaultLaw : Type 0
-LeastFaultLaw = (text : List ℕ) → (fault : LineFault) → length text ≤ most_bytes text
+LeastFaultLaw = (text : List ℕ) → (fault : Fault) → length text ≤ most_bytes text
     → IsLeastFault (fault_at (meant_lines text)) fault → script_meaning text ≡ Err fault

@@ -3,8 +3,10 @@ use Rattle.std.specs.Prelude.{ℕ, Option, Some, None, Result, Ok, Err}
 use Rattle.pmp_text.specs.declared.flaw.Flaw.{Flaw}
 use Rattle.pmp_text.specs.declared.refusal.Refusal.{Refusal}
 use Rattle.pmp_text.specs.declared.refusal.Refusal.TheVariants.{BadRow}
-use Rattle.pmp_text.specs.declared.script.LineFault.{LineFault}
-use Rattle.pmp_text.specs.declared.trace.RowFault.{RowFault}
+use Rattle.pmp_text.specs.declared.fault.Fault.{Fault}
+use Rattle.pmp_text.specs.declared.fault.Place.TheVariants.{In}
+use Rattle.pmp_text.specs.declared.fault.Source.{Source}
+use Rattle.pmp_text.specs.declared.fault.Source.TheVariants as source
 
 -- the word or field with this index, from 0, is at fault
 abbrev pub part : (index : ℕ) → Refusal → Flaw
@@ -14,13 +16,13 @@ part index kind = record { kind = kind; part = Some index }
 abbrev pub as_whole : Refusal → Flaw
 as_whole kind = record { kind = kind; part = None }
 
--- the fault of a line with this number
-abbrev pub at_line : ℕ → Flaw → LineFault
-at_line number flaw = record { kind = flaw.kind; line = number; word = flaw.part }
+-- the fault of the row, or of the line, with this number in an input; 0 is the input as a whole
+abbrev pub at_row : Source → (number : ℕ) → Flaw → Fault
+at_row source number flaw = record { refusal = flaw.kind; place = In source number flaw.part }
 
--- the fault of a row with this number
-abbrev pub at_row : ℕ → Flaw → RowFault
-at_row number flaw = record { kind = flaw.kind; row = number; field = flaw.part }
+-- the fault of a line of a script
+abbrev pub at_line : (number : ℕ) → Flaw → Fault
+at_line number flaw = at_row source.Script number flaw
 
 -- the result for the field with this index, which is at fault if it can't be read
 abbrev pub of_part : {X Y : Type 0} → (index : ℕ) → (says : Option X) → (X → Result Y Flaw) → Result Y Flaw

@@ -28,7 +28,7 @@ use Rattle.pmp_text.specs.declared.script.statement.HeadStatement.{HeadStatement
 use Rattle.pmp_text.specs.declared.script.statement.HeadStatement.TheVariants.{Hart, Set}
 use Rattle.pmp_text.specs.declared.script.head.HeadLine.{HeadLine}
 use Rattle.pmp_text.specs.declared.expectation.Expectation.{Expectation}
-use Rattle.pmp_text.specs.declared.script.LineFault.{LineFault}
+use Rattle.pmp_text.specs.declared.fault.Fault.{Fault}
 use Rattle.pmp_text.specs.declared.script.version.Version.{Version}
 use Rattle.pmp_text.specs.declared.script.version.Version.TheVariants.{Sized, Headed}
 use Rattle.pmp_text.specs.Flaws.{at_line, part}
@@ -97,7 +97,7 @@ says_bits (Hart (Bits n)) = true
 says_bits _ = false
 
 -- a number of address bits that no hart of this XLEN has, at the line that gives it
-unfoldable pub bits_fault : List HeadLine → Option LineFault
+unfoldable pub bits_fault : List HeadLine → Option Fault
 bits_fault lines =
     let line = find (λ line. says_bits line.statement) lines in
     option_map (λ fault. at_line (unwrap_or (option_map (λ line. line.line) line) 0) (part 2 (hart_kind fault)))
@@ -135,21 +135,21 @@ foreign_kind is_rv32 (Addr n) = None
 foreign_kind is_rv32 Mseccfg = None
 foreign_kind is_rv32 Mseccfgh = if is_rv32 then None else Some kind.BadName
 
-abbrev pub foreign_at : (is_rv32 : Bool) → (number : ℕ) → Csr → Option LineFault
+abbrev pub foreign_at : (is_rv32 : Bool) → (number : ℕ) → Csr → Option Fault
 foreign_at is_rv32 number csr = option_map (λ refusal. at_line number (part 1 refusal)) (foreign_kind is_rv32 csr)
 
-abbrev pub foreign_set : (is_rv32 : Bool) → (number : ℕ) → HeadStatement → Option LineFault
+abbrev pub foreign_set : (is_rv32 : Bool) → (number : ℕ) → HeadStatement → Option Fault
 foreign_set is_rv32 number (Hart field) = None
 foreign_set is_rv32 number (Set csr value) = foreign_at is_rv32 number csr
 
-abbrev pub foreign_line : (is_rv32 : Bool) → HeadLine → Option LineFault
+abbrev pub foreign_line : (is_rv32 : Bool) → HeadLine → Option Fault
 foreign_line is_rv32 line = foreign_set is_rv32 line.line line.statement
 
-abbrev pub foreign_expectation : (is_rv32 : Bool) → Expectation → Option LineFault
+abbrev pub foreign_expectation : (is_rv32 : Bool) → Expectation → Option Fault
 foreign_expectation is_rv32 expected = foreign_at is_rv32 expected.line expected.register
 
 -- the first fault in the list
-abbrev pub first_of : {X : Type 0} → (X → Option LineFault) → List X → Option LineFault
+abbrev pub first_of : {X : Type 0} → (X → Option Fault) → List X → Option Fault
 first_of fault [] = None
 first_of fault (x ∷ xs) = option_or (fault x) (first_of fault xs)
 
@@ -211,14 +211,14 @@ first_not_held file lines =
 
 -- a register that the hart doesn't have, in a line or an expectation, and then a value that its register doesn't store,
 -- which only the whole head shows
-unfoldable pub fault_on : RegisterFile → List HeadLine → List Expectation → Option LineFault
+unfoldable pub fault_on : RegisterFile → List HeadLine → List Expectation → Option Fault
 fault_on file lines expectations =
     let is_rv32 = file.profile.is_rv32 in
     option_or (option_or (first_of (foreign_line is_rv32) lines) (first_of (foreign_expectation is_rv32) expectations))
     (option_map (λ number. at_line number (part 2 kind.NotHeld)) (first_not_held file lines))
 
 -- the file that a head's lines give, if they have no such fault, and a hart of their XLEN has their address bits
-abbrev pub started : List HeadLine → List Expectation → Result RegisterFile LineFault
+abbrev pub started : List HeadLine → List Expectation → Result RegisterFile Fault
 started lines expectations = elim (bits_fault lines) [
   | Some fault ↦ Err fault
   | None ↦ elim (fault_on (start_said lines) lines expectations) [ Some fault ↦ Err fault | None ↦ Ok (start_said lines) ]

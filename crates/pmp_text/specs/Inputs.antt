@@ -3,8 +3,12 @@ use Rattle.std.specs.Prelude.{◌≡◌, ◌⊎◌, ℕ, ◌+◌, ◌<◌, ◌�
 use Rattle.std.specs.declared.alloc.Global.{Global}
 use Rattle.std.specs.Io.KnownBytes.{Keeps}
 use Rattle.pmp_text.specs.Bytes.{Takes, TakesAtMost}
+use Rattle.pmp_text.specs.Flaws.{as_whole, at_row}
+use Rattle.pmp_text.specs.Outcomes.{no_memory}
 use Rattle.pmp_text.specs.declared.input.InputFault.{InputFault}
 use Rattle.pmp_text.specs.declared.input.InputFault.TheVariants.{TooLong, Input, Memory}
+use Rattle.pmp_text.specs.declared.fault.Fault.{Fault}
+use Rattle.pmp_text.specs.declared.fault.Source.{Source}
 use Rattle.pmp_text.specs.declared.refusal.Refusal.{Refusal}
 use Rattle.pmp_text.specs.declared.refusal.Refusal.TheVariants as refusal
 
@@ -13,6 +17,11 @@ abbrev pub refusal_of_input : InputFault → Refusal
 refusal_of_input TooLong = refusal.TooLong
 refusal_of_input Input = refusal.Input
 refusal_of_input Memory = refusal.Memory
+
+-- the fault of this input
+abbrev pub input_fault : Source → InputFault → Fault
+input_fault source Memory = no_memory
+input_fault source fault = at_row source 0 (as_whole (refusal_of_input fault))
 
 -- one read gave more bytes than there is room for, or failed
 abbrev pub CantReadPart : (room : ℕ) (old new : Option (List ℕ)) → InputFault → Type 0

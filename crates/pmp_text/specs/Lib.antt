@@ -13,6 +13,8 @@ pub mod Effects
 pub mod EntryRows
 pub mod EventLogs
 pub mod Expected
+pub mod FaultPlaces
+pub mod FaultTexts
 pub mod Flaws
 pub mod Heads
 pub mod Hexadecimal

@@ -6,9 +6,9 @@ use Rattle.std.specs.List.{zip, enumerate_from, flat_map, list_any, position_fro
 use Rattle.std.specs.Option.{option_or}
 use Rattle.pmp_core.specs.declared.decision.Decision.{Decision}
 use Rattle.pmp_text.specs.declared.trace.TraceRow.{TraceRow}
-use Rattle.pmp_text.specs.declared.trace.RowFault.{RowFault}
+use Rattle.pmp_text.specs.declared.fault.Fault.{Fault}
 use Rattle.pmp_text.specs.declared.refusal.Refusal.TheVariants.{BadHeader, TooLong}
-use Rattle.pmp_text.specs.declared.trace.rows.Place.{Place}
+use Rattle.pmp_text.specs.declared.trace.rows.Position.{Position}
 use Rattle.pmp_text.specs.declared.trace.row_fields.RowFields.{RowFields}
 use Rattle.pmp_text.specs.Contents.{ScriptContents}
 use Rattle.pmp_text.specs.Moments.{KnownMoments, moments_in}
@@ -16,6 +16,7 @@ use Rattle.pmp_text.specs.Reports.{AreDecided, report_row}
 use Rattle.pmp_text.specs.Tables.{behind_header, fault_or_rows, is_line_end}
 use Rattle.pmp_text.specs.Traces.{after_of, first_row_fault, is_header, row_fields, row_of_record}
 use Rattle.pmp_text.specs.Flaws.{at_row, as_whole}
+use Rattle.pmp_text.specs.declared.fault.Source.TheVariants as source
 
 abbrev pub Records : Type 0
 Records = List (List (List ℕ))
@@ -23,13 +24,13 @@ Records = List (List (List ℕ))
 -- ---- the whole
 
 -- what the rows of a trace mean, numbered from `first`
-abbrev pub long_rows_meaning : KnownMoments → (first : ℕ) → Records → Result (List RowFields) RowFault
+abbrev pub long_rows_meaning : KnownMoments → (first : ℕ) → Records → Result (List RowFields) Fault
 long_rows_meaning moments first rows =
     fault_or_rows (first_row_fault moments None first rows) (filter_map (row_of_record moments) rows)
 
 -- what the records of a trace of any length mean: numbered from 1, as those of a text within the limit
-abbrev pub long_meaning : KnownMoments → (first : ℕ) → Records → Result (List RowFields) RowFault
-long_meaning moments first = behind_header is_header (long_rows_meaning moments first)
+abbrev pub long_meaning : KnownMoments → (first : ℕ) → Records → Result (List RowFields) Fault
+long_meaning moments first = behind_header source.Trace is_header (long_rows_meaning moments first)
 
 -- a report row for each decision, numbered from `first`
 unfoldable pub report_text_from : (first : ℕ) → List TraceRow → List Decision → List ℕ
@@ -81,7 +82,7 @@ abbrev pub is_bare_record : KnownMoments → List (List ℕ) → Bool
 is_bare_record moments fields = elim (row_of_record moments fields) [ Some row ↦ row.is_bare | None ↦ false ]
 
 -- the place of the records that follow rows
-abbrev pub rows_behind : KnownMoments → Place → Records → Place
+abbrev pub rows_behind : KnownMoments → Position → Records → Position
 rows_behind moments place rows = record {
   begun = true;
   last = last_after moments place.last rows;
@@ -90,7 +91,7 @@ rows_behind moments place rows = record {
 }
 
 -- the place of the records that follow these
-abbrev pub place_behind : KnownMoments → Place → Records → Place
+abbrev pub place_behind : KnownMoments → Position → Records → Position
 place_behind moments place records = record {
   begun = has_begun place.begun records;
   last = last_after moments place.last (row_records place.begun records);
@@ -100,17 +101,17 @@ place_behind moments place records = record {
 
 -- the first fault of records at this place; only the end of a trace shows that there is no header
 abbrev pub first_fault_at : KnownMoments → (begun : Bool) → (last : Option ℕ) → (next : ℕ) → Records
-    → Option RowFault
+    → Option Fault
 first_fault_at moments true last next rows = first_row_fault moments last next rows
 first_fault_at moments false last next [] = None
 first_fault_at moments false last next (header ∷ rows) =
-    if is_header header then first_row_fault moments last next rows else Some (at_row 0 (as_whole BadHeader))
+    if is_header header then first_row_fault moments last next rows else Some (at_row source.Trace 0 (as_whole BadHeader))
 
-abbrev pub piece_fault : KnownMoments → Place → Records → Option RowFault
+abbrev pub piece_fault : KnownMoments → Position → Records → Option Fault
 piece_fault moments place = first_fault_at moments place.begun place.last place.next
 
 -- rows without a fault come first, and the last one would have the number 2^64 - 1 or more
-pub record HasTooManyRows (moments : KnownMoments) (place : Place) (records : Records) : Type 0 where
+pub record HasTooManyRows (moments : KnownMoments) (place : Position) (records : Records) : Type 0 where
   pub front : Records
   pub behind : Records
   pub are : records ≡ front ++ behind
@@ -118,9 +119,9 @@ pub record HasTooManyRows (moments : KnownMoments) (place : Place) (records : Re
   pub many : 2 ^ 64 ≤ (place_behind moments place front).next
 
 -- the place where a trace begins whose first row has this number
-abbrev pub beginning : (first : ℕ) → Place
+abbrev pub beginning : (first : ℕ) → Position
 beginning first = record { begun = false; last = None; next = first; bare = None }
 
 -- a row or a line is too long, which is no row's fault
-abbrev pub too_long_for_rows : RowFault
-too_long_for_rows = at_row 0 (as_whole TooLong)
+abbrev pub too_long_for_rows : Fault
+too_long_for_rows = at_row source.Trace 0 (as_whole TooLong)

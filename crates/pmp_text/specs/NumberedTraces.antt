@@ -2,7 +2,7 @@
 use Rattle.std.specs.Prelude.{◌≡◌, ◌⊎◌, ℕ, List, map, Ok, Err}
 use Rattle.pmp_text.specs.declared.refusal.Refusal.{Refusal}
 use Rattle.pmp_text.specs.declared.refusal.Refusal.TheVariants as refusal
-use Rattle.pmp_text.specs.declared.trace.RowFault.{RowFault}
+use Rattle.pmp_text.specs.declared.fault.Fault.{Fault}
 use Rattle.pmp_text.specs.declared.trace.TraceRow.{TraceRow}
 use Rattle.pmp_text.specs.declared.trace.numbered.Row.{Row}
 use Rattle.pmp_text.specs.declared.trace.numbered.TraceFault.{TraceFault}
@@ -10,8 +10,9 @@ use Rattle.pmp_text.specs.declared.trace.numbered.TraceKind.{TraceKind}
 use Rattle.pmp_text.specs.declared.trace.numbered.TraceKind.TheVariants.{BadHeader, BadRow, BadAfter, Order, BadLength}
 use Rattle.pmp_text.specs.declared.trace.numbered.TraceKind.TheVariants.{PastEnd, TooLong, Memory, Input}
 use Rattle.pmp_text.specs.Moments.{unnamed_moments}
-use Rattle.pmp_text.specs.Outcomes.{no_input_for_rows, no_memory_for_rows}
+use Rattle.pmp_text.specs.Outcomes.{no_memory}
 use Rattle.pmp_text.specs.Traces.{row_fields, trace_meaning}
+use Rattle.pmp_text.specs.FaultPlaces.{number_in}
 
 -- the refusal with the same name
 abbrev pub refusal_of_trace : TraceKind → Refusal
@@ -38,8 +39,8 @@ trace_kind refusal.Input = Input
 trace_kind _ = BadRow
 
 -- the fault without its field
-abbrev pub row_of_fault : RowFault → TraceFault
-row_of_fault fault = record { kind = trace_kind fault.kind; row = fault.row }
+abbrev pub row_of_fault : Fault → TraceFault
+row_of_fault fault = record { kind = trace_kind fault.refusal; row = number_in fault.place }
 
 -- the row without how its start is written
 abbrev pub numbered_row : TraceRow → Row
@@ -51,9 +52,8 @@ pub record AreRowsOf (publications : ℕ) (text : List ℕ) (rows : List Row) : 
   pub means : trace_meaning (unnamed_moments publications) text ≡ Ok (map row_fields all)
   pub same : rows ≡ map numbered_row all
 
--- the trace has this first fault, or memory ran out, or the crate `csv` reports a failed input
+-- the trace has this first fault, or memory ran out
 pub record IsFaultOf (publications : ℕ) (text : List ℕ) (fault : TraceFault) : Type 0 where
-  pub first : RowFault
-  pub why : (trace_meaning (unnamed_moments publications) text ≡ Err first)
-      ⊎ (first ≡ no_memory_for_rows) ⊎ (first ≡ no_input_for_rows)
+  pub first : Fault
+  pub why : (trace_meaning (unnamed_moments publications) text ≡ Err first) ⊎ (first ≡ no_memory)
   pub same : fault ≡ row_of_fault first

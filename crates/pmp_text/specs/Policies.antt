@@ -20,13 +20,14 @@ use Rattle.pmp_text.specs.declared.policy.row_fields.PolicyFields.{PolicyFields}
 use Rattle.pmp_text.specs.declared.policy.row_fields.TheConstants.{COMMENT, NAME}
 use Rattle.pmp_text.specs.declared.flaw.Flaw.{Flaw}
 use Rattle.pmp_text.specs.declared.refusal.Refusal.TheVariants.{BadRow, BadAfter, PastEnd}
-use Rattle.pmp_text.specs.declared.trace.RowFault.{RowFault}
+use Rattle.pmp_text.specs.declared.fault.Fault.{Fault}
 use Rattle.pmp_text.specs.declared.moments.Asked.{Asked}
 use Rattle.pmp_text.specs.AccessWords.{kind_named}
 use Rattle.pmp_text.specs.Moments.{KnownMoments, asked_between, moment_said, to_said}
 use Rattle.pmp_text.specs.Numbers.{is_bare, word_number}
 use Rattle.pmp_text.specs.Tables.{behind_header, fault_or_rows, records_of, within_limit}
 use Rattle.pmp_text.specs.Flaws.{and_then, at_row, in_part, of_part, part, as_whole}
+use Rattle.pmp_text.specs.declared.fault.Source.TheVariants as source
 
 -- ---- words
 
@@ -232,19 +233,19 @@ policy_row_fault publications (Ok row) = policy_fields_fault publications row
 
 -- the fault of the first row that has one; the first row has this number
 abbrev pub first_policy_fault : (labeled : Bool) → KnownMoments → (number : ℕ) → List (List (List ℕ))
-    → Option RowFault
+    → Option Fault
 first_policy_fault labeled moments number [] = None
 first_policy_fault labeled moments number (row ∷ more) =
-    option_or (option_map (at_row number) (policy_row_fault moments.publications (policy_in labeled moments row)))
+    option_or (option_map (at_row source.Policy number) (policy_row_fault moments.publications (policy_in labeled moments row)))
     (first_policy_fault labeled moments (number + 1) more)
 
 -- the rows are numbered from 1
 abbrev pub policy_rows_meaning : (labeled : Bool) → KnownMoments → List (List (List ℕ))
-    → Result (List PolicyFields) RowFault
+    → Result (List PolicyFields) Fault
 policy_rows_meaning labeled moments rows =
     fault_or_rows (first_policy_fault labeled moments 1 rows) (filter_map (policy_of_record labeled moments) rows)
 
 -- what a text means as a policy for a script with these moments
-unfoldable pub policy_meaning : KnownMoments → List ℕ → Result (List PolicyFields) RowFault
-policy_meaning moments text = within_limit
-    (behind_header is_policy_header (policy_rows_meaning (is_labeled (records_of text)) moments)) text
+unfoldable pub policy_meaning : KnownMoments → List ℕ → Result (List PolicyFields) Fault
+policy_meaning moments text = within_limit source.Policy
+    (behind_header source.Policy is_policy_header (policy_rows_meaning (is_labeled (records_of text)) moments)) text

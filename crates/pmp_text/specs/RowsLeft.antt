@@ -2,7 +2,7 @@
 use Rattle.std.specs.Prelude.{◌≡◌, ℕ, ◌+◌, ◌^◌, ◌<◌, ◌≤◌, List, ◌∷◌, Some, None, Ok, if◌then◌else◌}
 use Rattle.std.specs.Option.{option_or}
 use Rattle.pmp_text.specs.declared.trace.TraceRow.{TraceRow}
-use Rattle.pmp_text.specs.declared.trace.rows.Place.{Place}
+use Rattle.pmp_text.specs.declared.trace.rows.Position.{Position}
 use Rattle.pmp_text.specs.LongTraces.{Records}
 use Rattle.pmp_text.specs.Moments.{KnownMoments}
 use Rattle.pmp_text.specs.Traces.{row_fault, row_fields, row_in}
@@ -11,10 +11,10 @@ use Rattle.pmp_text.specs.Traces.{row_fault, row_fields, row_in}
 pub record RowsLeft : Type 0 where
   pub records : Records
   pub moments : KnownMoments
-  pub place : Place
+  pub place : Position
 
 -- the place after a row at this place
-abbrev pub place_after : Place → TraceRow → Place
+abbrev pub place_after : Position → TraceRow → Position
 place_after place row = record {
   begun = place.begun;
   last = Some row.after;

@@ -8,7 +8,7 @@ use Rattle.pmp_core.specs.declared.event.TheConstants.{BATCH_EVENTS}
 use Rattle.pmp_text.specs.declared.flaw.Flaw.{Flaw}
 use Rattle.pmp_text.specs.declared.mark.Name.{Name}
 use Rattle.pmp_text.specs.declared.refusal.Refusal.TheVariants.{BatchFull, LateHead, OpenMark, Twice, TooMany}
-use Rattle.pmp_text.specs.declared.script.LineFault.{LineFault}
+use Rattle.pmp_text.specs.declared.fault.Fault.{Fault}
 use Rattle.pmp_text.specs.declared.script.statement.Statement.{Statement}
 use Rattle.pmp_text.specs.declared.script.statement.HeadStatement.{HeadStatement}
 use Rattle.pmp_text.specs.declared.script.version.Version.{Version}
@@ -139,7 +139,7 @@ line_fault [] line = if is_some (version_named line.words) then None else Some (
 line_fault (last ∷ before) line = fault_behind (version_above (last ∷ before)) (last ∷ before) line
 
 -- the fault of the first line that has one
-abbrev pub first_fault : (before : List Line) → List Line → Option LineFault
+abbrev pub first_fault : (before : List Line) → List Line → Option Fault
 first_fault before [] = None
 first_fault before (line ∷ more) =
     option_or (option_map (at_line line.number) (line_fault before line)) (first_fault (line ∷ before) more)

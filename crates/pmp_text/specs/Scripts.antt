@@ -6,7 +6,7 @@ use Rattle.pmp_core.specs.RegisterFile.{reset_file}
 use Rattle.pmp_text.specs.declared.expectation.Expectation.{Expectation}
 use Rattle.pmp_text.specs.declared.mark.Mark.{Mark}
 use Rattle.pmp_text.specs.declared.refusal.Refusal.TheVariants.{BadVersion, Unpublished, TooLong}
-use Rattle.pmp_text.specs.declared.script.LineFault.{LineFault}
+use Rattle.pmp_text.specs.declared.fault.Fault.{Fault}
 use Rattle.pmp_text.specs.declared.script.head.HeadLine.{HeadLine}
 use Rattle.pmp_text.specs.declared.script.version.Version.{Version}
 use Rattle.pmp_text.specs.declared.script.version.Version.TheVariants.{Sized, Headed}
@@ -20,13 +20,13 @@ use Rattle.pmp_text.specs.ScriptEvents.{publications, first_unpublished, head_li
 use Rattle.pmp_text.specs.Longhand.{meant_lines}
 
 -- a line's fault comes first, then events that are never published
-abbrev pub fault_or_publications : {X : Type 0} → Option LineFault → Option ℕ → X → Result X LineFault
+abbrev pub fault_or_publications : {X : Type 0} → Option Fault → Option ℕ → X → Result X Fault
 fault_or_publications (Some fault) unpublished published = Err fault
 fault_or_publications None (Some number) published = Err (at_line number (as_whole Unpublished))
 fault_or_publications None None published = Ok published
 
 -- these publications are for the usual hart of this size, from reset on
-abbrev pub for_unit : Size → Result Publications LineFault → Result ScriptContents LineFault
+abbrev pub for_unit : Size → Result Publications Fault → Result ScriptContents Fault
 for_unit size (Ok published) = Ok (record {
   size = size;
   start = reset_file (profile_of size);
@@ -38,8 +38,8 @@ for_unit size (Ok published) = Ok (record {
 for_unit size (Err fault) = Err fault
 
 -- these publications are for the hart of a head, from the registers that it sets
-abbrev pub for_head : List HeadLine → List Expectation → List Mark → Result Publications LineFault
-    → Result ScriptContents LineFault
+abbrev pub for_head : List HeadLine → List Expectation → List Mark → Result Publications Fault
+    → Result ScriptContents Fault
 for_head head expectations marks (Ok published) = elim (started head expectations) [
   | Ok start ↦ Ok (record {
     size = size_for start.profile;
@@ -54,12 +54,12 @@ for_head head expectations marks (Ok published) = elim (started head expectation
 for_head head expectations marks (Err fault) = Err fault
 
 -- what the lines after the version line publish
-abbrev pub published_behind : Line → List Line → Version → Result Publications LineFault
+abbrev pub published_behind : Line → List Line → Version → Result Publications Fault
 published_behind first more version =
     fault_or_publications (first_fault (first ∷ []) more) (first_unpublished version more) (publications version more)
 
 -- what the lines mean after a line that names a version, or doesn't
-abbrev pub meaning_behind : Line → List Line → Option Version → Result ScriptContents LineFault
+abbrev pub meaning_behind : Line → List Line → Option Version → Result ScriptContents Fault
 meaning_behind first more None = Err (at_line first.number (version_flaw first.words))
 meaning_behind first more (Some (Sized size)) = for_unit size (published_behind first more (Sized size))
 meaning_behind first more (Some Headed) =
@@ -67,7 +67,7 @@ meaning_behind first more (Some Headed) =
     (published_behind first more Headed)
 
 -- the first line is the version; the head and the publications follow it
-abbrev pub lines_meaning : List Line → Result ScriptContents LineFault
+abbrev pub lines_meaning : List Line → Result ScriptContents Fault
 lines_meaning [] = Err (at_line 1 (as_whole BadVersion))
 lines_meaning (version ∷ more) = meaning_behind version more (version_named version.words)
 
@@ -76,7 +76,7 @@ abbrev pub most_bytes : List ℕ → ℕ
 most_bytes text = if is_headed text then MAX_HEADED_SCRIPT else MAX_SCRIPT
 
 -- what a text means, with each shorthand as its writes; one of more bytes is too long, whatever is in it
-unfoldable pub script_meaning : List ℕ → Result ScriptContents LineFault
+unfoldable pub script_meaning : List ℕ → Result ScriptContents Fault
 script_meaning text =
     if nat_lt (most_bytes text) (length text) then Err (at_line 0 (as_whole TooLong))
     else lines_meaning (meant_lines text)

@@ -4,7 +4,7 @@ use Rattle.pmp_core.specs.declared.event.Event.{Event}
 use Rattle.pmp_core.specs.declared.size.Size.{Size}
 use Rattle.pmp_text.specs.declared.refusal.Refusal.{Refusal}
 use Rattle.pmp_text.specs.declared.refusal.Refusal.TheVariants as refusal
-use Rattle.pmp_text.specs.declared.script.LineFault.{LineFault}
+use Rattle.pmp_text.specs.declared.fault.Fault.{Fault}
 use Rattle.pmp_text.specs.declared.script.reader.TheConstants.{MAX_SCRIPT}
 use Rattle.pmp_text.specs.declared.script.sized.ScriptFault.{ScriptFault}
 use Rattle.pmp_text.specs.declared.script.sized.ScriptKind.{ScriptKind}
@@ -13,6 +13,7 @@ use Rattle.pmp_text.specs.declared.script.sized.ScriptKind.TheVariants.{BatchFul
 use Rattle.pmp_text.specs.Contents.{ScriptContents}
 use Rattle.pmp_text.specs.ScriptLines.{Line, is_headed_by, significant_lines}
 use Rattle.pmp_text.specs.Scripts.{script_meaning}
+use Rattle.pmp_text.specs.FaultPlaces.{number_in}
 
 -- the size of its unit, and its publications
 pub record SizedScript : Type 0 where
@@ -47,8 +48,8 @@ script_kind refusal.Memory = Memory
 script_kind _ = BadVersion
 
 -- the fault without its word
-abbrev pub line_of : LineFault → ScriptFault
-line_of fault = record { kind = script_kind fault.kind; line = fault.line }
+abbrev pub line_of : Fault → ScriptFault
+line_of fault = record { kind = script_kind fault.refusal; line = number_in fault.place }
 
 -- the line that names version 3, if the first significant one does
 abbrev pub headed_line : List Line → Option ScriptFault
@@ -62,7 +63,7 @@ unsized_fault text =
     if nat_lt MAX_SCRIPT (length text) then Some (record { kind = TooLong; line = 0 })
     else headed_line (significant_lines text)
 
-abbrev pub sized_result : Result ScriptContents LineFault → Result SizedScript ScriptFault
+abbrev pub sized_result : Result ScriptContents Fault → Result SizedScript ScriptFault
 sized_result (Ok script) = Ok (sized script)
 sized_result (Err fault) = Err (line_of fault)
 

@@ -4,7 +4,8 @@ use Rattle.std.specs.Prelude.{nat_lt, if◌then◌else◌, ◌==◌, ◌||◌}
 use Rattle.std.specs.List.{list_any}
 use Rattle.csv.specs.Reading.{default_config, records, strip_bom}
 use Rattle.pmp_text.specs.declared.refusal.Refusal.TheVariants.{BadHeader, TooLong}
-use Rattle.pmp_text.specs.declared.trace.RowFault.{RowFault}
+use Rattle.pmp_text.specs.declared.fault.Fault.{Fault}
+use Rattle.pmp_text.specs.declared.fault.Source.{Source}
 use Rattle.pmp_text.specs.declared.trace.reader.TheConstants.{MAX_TRACE}
 use Rattle.pmp_text.specs.Flaws.{at_row, as_whole}
 
@@ -22,20 +23,20 @@ abbrev pub is_broken : List (List ℕ) → Bool
 is_broken fields = list_any (λ field. list_any is_line_end field) fields
 
 -- a row's fault, or else what the rows mean
-abbrev pub fault_or_rows : {X : Type 0} → Option RowFault → List X → Result (List X) RowFault
+abbrev pub fault_or_rows : {X : Type 0} → Option Fault → List X → Result (List X) Fault
 fault_or_rows (Some fault) rows = Err fault
 fault_or_rows None rows = Ok rows
 
--- what records mean whose first one is a header, with the others after it
-abbrev pub behind_header : {X : Type 0} → (is_header : List (List ℕ) → Bool)
-    → (meaning : List (List (List ℕ)) → Result (List X) RowFault) → List (List (List ℕ))
-    → Result (List X) RowFault
-behind_header is_header meaning [] = Err (at_row 0 (as_whole BadHeader))
-behind_header is_header meaning (header ∷ rows) =
-    if is_header header then meaning rows else Err (at_row 0 (as_whole BadHeader))
+-- what records of an input mean whose first one is a header, with the others after it
+abbrev pub behind_header : {X : Type 0} → Source → (is_header : List (List ℕ) → Bool)
+    → (meaning : List (List (List ℕ)) → Result (List X) Fault) → List (List (List ℕ))
+    → Result (List X) Fault
+behind_header source is_header meaning [] = Err (at_row source 0 (as_whole BadHeader))
+behind_header source is_header meaning (header ∷ rows) =
+    if is_header header then meaning rows else Err (at_row source 0 (as_whole BadHeader))
 
 -- what a text means by its records; one of more bytes than the limit is too long, whatever is in it
-abbrev pub within_limit : {X : Type 0} → (meaning : List (List (List ℕ)) → Result (List X) RowFault) → List ℕ
-    → Result (List X) RowFault
-within_limit meaning text =
-    if nat_lt MAX_TRACE (length text) then Err (at_row 0 (as_whole TooLong)) else meaning (records_of text)
+abbrev pub within_limit : {X : Type 0} → Source → (meaning : List (List (List ℕ)) → Result (List X) Fault) → List ℕ
+    → Result (List X) Fault
+within_limit source meaning text =
+    if nat_lt MAX_TRACE (length text) then Err (at_row source 0 (as_whole TooLong)) else meaning (records_of text)

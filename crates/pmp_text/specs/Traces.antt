@@ -11,12 +11,13 @@ use Rattle.pmp_text.specs.declared.trace.row_fields.RowFields.{RowFields}
 use Rattle.pmp_text.specs.declared.trace.TraceRow.{TraceRow}
 use Rattle.pmp_text.specs.declared.flaw.Flaw.{Flaw}
 use Rattle.pmp_text.specs.declared.refusal.Refusal.TheVariants.{BadRow, BadAfter, Order, BadLength, PastEnd}
-use Rattle.pmp_text.specs.declared.trace.RowFault.{RowFault}
+use Rattle.pmp_text.specs.declared.fault.Fault.{Fault}
 use Rattle.pmp_text.specs.AccessWords.{mode_named, kind_named}
 use Rattle.pmp_text.specs.Moments.{KnownMoments, after_said}
 use Rattle.pmp_text.specs.Numbers.{is_bare, word_number}
 use Rattle.pmp_text.specs.Tables.{behind_header, fault_or_rows, is_broken, within_limit}
 use Rattle.pmp_text.specs.Flaws.{at_row, in_part, of_part, part, as_whole}
+use Rattle.pmp_text.specs.declared.fault.Source.TheVariants as source
 
 -- a record's five fields
 pub record FiveFields : Type 0 where
@@ -110,21 +111,21 @@ row_fault publications last (Ok row) = fields_fault publications last row
 
 -- the fault of the first row that has one; the first row has this number, and the row before asks for `last`
 abbrev pub first_row_fault : KnownMoments → (last : Option ℕ) → (number : ℕ) → List (List (List ℕ))
-    → Option RowFault
+    → Option Fault
 first_row_fault moments last number [] = None
 first_row_fault moments last number (row ∷ more) =
-    option_or (option_map (at_row number) (row_fault moments.publications last (row_in moments row)))
+    option_or (option_map (at_row source.Trace number) (row_fault moments.publications last (row_in moments row)))
     (first_row_fault moments (after_of (row_of_record moments row)) (number + 1) more)
 
 -- the rows are numbered from 1, and no row comes before the first one
-abbrev pub rows_meaning : KnownMoments → List (List (List ℕ)) → Result (List RowFields) RowFault
+abbrev pub rows_meaning : KnownMoments → List (List (List ℕ)) → Result (List RowFields) Fault
 rows_meaning moments rows =
     fault_or_rows (first_row_fault moments None 1 rows) (filter_map (row_of_record moments) rows)
 
 -- the rows follow the header
-abbrev pub records_meaning : KnownMoments → List (List (List ℕ)) → Result (List RowFields) RowFault
-records_meaning moments = behind_header is_header (rows_meaning moments)
+abbrev pub records_meaning : KnownMoments → List (List (List ℕ)) → Result (List RowFields) Fault
+records_meaning moments = behind_header source.Trace is_header (rows_meaning moments)
 
 -- what a text means for a script with these moments
-unfoldable pub trace_meaning : KnownMoments → List ℕ → Result (List RowFields) RowFault
-trace_meaning moments text = within_limit (records_meaning moments) text
+unfoldable pub trace_meaning : KnownMoments → List ℕ → Result (List RowFields) Fault
+trace_meaning moments text = within_limit source.Trace (records_meaning moments) text

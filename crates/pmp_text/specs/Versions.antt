@@ -11,7 +11,7 @@ use Rattle.pmp_core.specs.Hart.{profile_of}
 use Rattle.pmp_core.specs.Histories.{joined, file_after}
 use Rattle.pmp_core.specs.RegisterFile.{IsLegal, reset_file}
 use Rattle.pmp_core.specs.SizeLaw.{writes_first}
-use Rattle.pmp_text.specs.declared.script.LineFault.{LineFault}
+use Rattle.pmp_text.specs.declared.fault.Fault.{Fault}
 use Rattle.pmp_text.specs.declared.refusal.Refusal.TheVariants.{BadVersion, TooLong}
 use Rattle.pmp_text.specs.declared.script.version.Version.TheVariants.{Sized}
 use Rattle.pmp_text.specs.declared.trace.TraceRow.{TraceRow}
@@ -35,7 +35,7 @@ is_version_one (name ∷ version ∷ []) = bytes_eq name (codes "pmp") && bytes_
 is_version_one _ = false
 
 -- what lines mean if version 1 is the only one
-abbrev pub lines_meaning_in_one : List Line → Result Publications LineFault
+abbrev pub lines_meaning_in_one : List Line → Result Publications Fault
 lines_meaning_in_one [] = Err (at_line 1 (as_whole BadVersion))
 lines_meaning_in_one (version ∷ more) =
     if is_version_one version.words
@@ -43,7 +43,7 @@ lines_meaning_in_one (version ∷ more) =
     else Err (at_line version.number (version_flaw version.words))
 
 -- what a text means if version 1 is the only one
-abbrev pub meaning_in_one : List ℕ → Result Publications LineFault
+abbrev pub meaning_in_one : List ℕ → Result Publications Fault
 meaning_in_one text =
     if nat_lt MAX_SCRIPT (length text) then Err (at_line 0 (as_whole TooLong))
     else lines_meaning_in_one (significant_lines text)

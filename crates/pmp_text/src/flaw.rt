@@ -3,9 +3,8 @@
 ghost use Rattle.std.specs.Prelude.{◌≡◌};
 ghost use Rattle.pmp_text.specs.Flaws.{at_line, at_row, part, as_whole};
 
+use crate::fault::{Fault, Place, Source};
 use crate::refusal::Refusal;
-use crate::script::LineFault;
-use crate::trace::RowFault;
 
 /// What is wrong with a line of a script or with a row, without its position.
 #[derive(Clone, Copy, Debug, PartialEq, Eq)]
@@ -38,25 +37,24 @@ impl Refusal {
 }
 
 impl Flaw {
-    /// Returns the fault of the line with this number; 0 is the text as a whole.
-    pub(crate) fn at_line(self, line: u64) -> LineFault
+    /// Returns the fault of the line of a script with this number; 0 is the script as a whole.
+    pub(crate) fn at_line(self, line: u64) -> Fault
         ensures { result ≡ at_line line self }
     {
-        LineFault {
-            kind: self.kind,
-            line,
-            word: self.part,
-        }
+        self.at_row(Source::Script, line)
     }
 
-    /// Returns the fault of the row with this number; 0 is the text as a whole.
-    pub fn at_row(self, row: u64) -> RowFault
-        ensures { result ≡ at_row row self }
+    /// Returns the fault of the row, or the line, of an input with this number; 0 is the input as a whole.
+    pub fn at_row(self, source: Source, number: u64) -> Fault
+        ensures { result ≡ at_row source number self }
     {
-        RowFault {
-            kind: self.kind,
-            row,
-            field: self.part,
+        Fault {
+            refusal: self.kind,
+            place: Place::In {
+                source,
+                number,
+                part: self.part,
+            },
         }
     }
 }

@@ -2,9 +2,10 @@
 
 ghost use Rattle.std.specs.Prelude.{◌≡◌, ◌<◌, ◌≤◌, length, take, IfErr, IfOk};
 ghost use Rattle.std.specs.Io.KnownBytes.{Consumes, IsAtEnd};
-ghost use Rattle.pmp_text.specs.Inputs.{CantReadPart, IsReadWhole, refusal_of_input};
+ghost use Rattle.pmp_text.specs.Inputs.{CantReadPart, IsReadWhole, input_fault, refusal_of_input};
 ghost use Rattle.pmp_text.specs.declared.input.InputFault.TheVariants.{Input, Memory};
 
+use crate::fault::{Fault, Source};
 use crate::refusal::Refusal;
 use crate::script::MAX_HEADED_SCRIPT;
 use std::alloc::{AllocError, Global};
@@ -26,6 +27,18 @@ pub enum InputFault {
     Input,
     /// Out of memory: 40.
     Memory,
+}
+
+impl InputFault {
+    /// Returns the fault of this input as a whole.
+    pub fn of(self, source: Source) -> Fault
+        ensures { result ≡ input_fault source self }
+    {
+        match self {
+            InputFault::Memory => Fault::from(Refusal::Memory),
+            fault => Refusal::from(fault).whole().at_row(source, 0),
+        }
+    }
 }
 
 impl From<InputFault> for Refusal {

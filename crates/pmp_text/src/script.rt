@@ -6,7 +6,6 @@ ghost use Rattle.pmp_core.specs.Histories.{joined};
 ghost use Rattle.pmp_text.specs.Contents.{ScriptContents};
 ghost use Rattle.pmp_text.specs.Moments.{moments_in};
 ghost use Rattle.pmp_text.specs.Steps.Cuts.{AreCut, AreEnds, cut_from, last_end};
-ghost use Rattle.pmp_text.specs.Outcomes.{out_of_memory};
 
 mod hart_field;
 mod hart_registers;
@@ -27,35 +26,14 @@ use crate::event_log::EventLog;
 use crate::expectation::Expectation;
 use crate::mark::Mark;
 use crate::moments::Moments;
-use crate::refusal::Refusal;
 pub use lines::split_first_line;
 use pmp_core::{BATCH_EVENTS, Event, RegFile, Size};
 pub use reader::{MAX_EVENTS, MAX_HEADED_SCRIPT, MAX_SCRIPT, is_headed, read_script_in};
 pub use shorthand::read_rights;
 pub use sized::{Script, ScriptFault, ScriptKind, read_script, unsized_fault};
 pub(crate) use start::kept_value;
-use std::alloc::AllocError;
 use std::marker::Model;
 pub use words::Words;
-
-/// What is wrong with a script, and where.
-#[derive(Clone, Copy, Debug, PartialEq, Eq)]
-pub struct LineFault {
-    /// 10 to 17, 40, and in version 3 50 to 57, 59 and 63.
-    pub kind: Refusal,
-    /// The line, counted from 1, or 0 if the fault is of no line: `TooLong` and `Memory`.
-    pub line: u64,
-    /// The word of the line, counted from 0, or none if the whole line is at fault.
-    pub word: Option<usize>,
-}
-
-impl From<AllocError> for LineFault {
-    ghost from_gives = { λ _ fault. fault ≡ out_of_memory };
-
-    fn from(_: AllocError) -> LineFault {
-        Refusal::Memory.whole().at_line(0)
-    }
-}
 
 /// The initial state of a script's unit, and its publications in order, which a log keeps with what is expected. Each
 /// publication is a batch of at most [`BATCH_EVENTS`] events, perhaps empty.

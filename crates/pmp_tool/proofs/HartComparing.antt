@@ -13,6 +13,7 @@ use Rattle.pmp_tool.specs.Finding.{AreUnfoundAt, unfit, unlisted}
 use Rattle.pmp_tool.specs.HartComparisons.{ComparisonFails}
 use Rattle.pmp_tool.specs.HartComparisons.{unfit as has_none, unlisted as cant_list}
 use Rattle.pmp_tool.specs.Inputs.{Paths}
+use Rattle.pmp_text.specs.declared.fault.Source.TheVariants.{Script}
 
 nothing_true : (a : Bool) → a && false ≡ true → ⊥
 nothing_true true is = true≢false (sym is)
@@ -28,7 +29,7 @@ some_hart files harts are none =
 
 -- why the folder at a path has no harts is why none are compared
 pub comparison_unfound : (paths : Paths) (folder : Text) (has_locks : Bool) (failure : Failure)
-    → AreUnfoundAt (paths.folders folder) None failure → ComparisonFails paths folder has_locks failure
+    → AreUnfoundAt (paths.folders folder) Script failure → ComparisonFails paths folder has_locks failure
 comparison_unfound paths folder has_locks _ (unlisted fault cant) = cant_list fault cant
 comparison_unfound paths folder has_locks _ (unfit fault files is none) = has_none fault files is none
 

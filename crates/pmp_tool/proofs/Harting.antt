@@ -11,7 +11,7 @@ use Rattle.pmp_text.specs.declared.address_name.AddressNames.{AddressNames}
 use Rattle.pmp_names.specs.declared.hart_name.HartName.{HartName}
 use Rattle.pmp_names.specs.HartLists.{names_of}
 use Rattle.pmp_names.specs.WholeRows.{whole}
-use Rattle.pmp_audit.specs.declared.fault.Side.{Side}
+use Rattle.pmp_text.specs.declared.fault.Source.{Source}
 use Rattle.pmp_tool.specs.declared.failure.Failure.{Failure}
 use Rattle.pmp_tool.specs.declared.harts.Harts.{Harts}
 use Rattle.pmp_tool.specs.declared.outcome.Outcome.{Outcome}
@@ -27,10 +27,10 @@ use Rattle.pmp_tool.specs.Inputs.{Folders, Paths}
 use Rattle.pmp_tool.specs.Questions.{names_for, takes_names}
 
 -- why the folder at a path has no harts is why a question has none
-pub unfound_at : (folders : Folders) (own : Text) (question : Question) (path : Text) (side : Option Side)
-    (failure : Failure) → AreUnfoundAt (folders path) side failure → AreUnfound folders own question failure
-unfound_at folders own question path side _ (unlisted fault cant) = unread_folder fault side cant
-unfound_at folders own question path side _ (unfit fault files is none) = no_harts fault side path files is none
+pub unfound_at : (folders : Folders) (own : Text) (question : Question) (path : Text) (source : Source)
+    (failure : Failure) → AreUnfoundAt (folders path) source failure → AreUnfound folders own question failure
+unfound_at folders own question path source _ (unlisted fault cant) = unread_folder fault source cant
+unfound_at folders own question path source _ (unfit fault files is none) = no_harts fault source path files is none
 
 -- a question about the new script of a hart is the hart's
 query_asked : (new : Bool) (name : Text) (question : Question)

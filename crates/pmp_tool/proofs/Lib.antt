@@ -6,4 +6,5 @@ pub mod Harting
 pub mod LineLengths
 pub mod Reading
 pub mod Running
-pub mod Telling
+pub mod Steps
+mod Telling

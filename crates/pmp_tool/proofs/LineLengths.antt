@@ -1,22 +1,20 @@
 -- Every line that tells of a refusal fits its room.
 use Rattle.std.proofs.Common.{ℕ, ◌<◌, ◌≤◌, ◌^◌, Bool, true, false, cond, List, [], ◌++◌, length, decimal, nat_eq, arith}
-use Rattle.std.specs.Prelude.{codes}
+use Rattle.std.specs.Prelude.{codes, nat_lt}
 use Rattle.std.proofs.lemmas.Fmt.{length-decimal-le}
 use Rattle.std.proofs.lemmas.List.{length-append}
-use Rattle.pmp_audit.specs.declared.fault.Side.{Side}
-use Rattle.pmp_audit.specs.declared.fault.Side.TheVariants.{Old, New}
 use Rattle.pmp_text.specs.Refusals.{name_of, number_of}
 use Rattle.pmp_text.specs.declared.refusal.Refusal.{Refusal}
 use Rattle.pmp_text.specs.declared.refusal.Refusal.TheVariants.{BadLength}
-use Rattle.pmp_tool.specs.FaultLines.{place_text, side_text}
+use Rattle.pmp_text.specs.FaultTexts.{is_named_whole, part_text, place_text, source_text}
+use Rattle.pmp_text.specs.declared.fault.Place.{Place}
+use Rattle.pmp_text.specs.declared.fault.Place.TheVariants.{Events, In, Nowhere, PlanEntries, PlanRows}
+use Rattle.pmp_text.specs.declared.fault.Source.{Source}
+use Rattle.pmp_text.specs.declared.fault.Source.TheVariants.{Script}
 use Rattle.pmp_tool.specs.LineLengths.{HartLineFitsLaw, IsNumbered, IsNumberedNote, LineFitsLaw, NoteFitsLaw}
 use Rattle.pmp_tool.specs.Notes.{left_text, note_text}
 use Rattle.pmp_tool.specs.declared.note.Note.{Note}
 use Rattle.pmp_tool.specs.declared.note.Note.TheVariants as note
-use Rattle.pmp_tool.specs.declared.fault_line.Place.{Place}
-use Rattle.pmp_tool.specs.declared.fault_line.Place.TheVariants.{Nowhere, Word, ScriptLine, TraceRow, PolicyRow}
-use Rattle.pmp_tool.specs.declared.fault_line.Place.TheVariants.{Script, LineOf, LogLine, NamesRow, PlanRow, PlanRows}
-use Rattle.pmp_tool.specs.declared.fault_line.Place.TheVariants.{PlanEntries}
 
 -- a refusal's number has two digits, and its name eleven letters
 number_fits : (refusal : Refusal) → number_of refusal < 10 ^ 2
@@ -27,9 +25,13 @@ name_fits : (refusal : Refusal) → length (name_of refusal) ≤ 11
 name_fits BadLength = omega arith
 name_fits _ = omega arith
 
-side_fits : (side : Side) → length (side_text side) ≤ 3
-side_fits Old = omega arith
-side_fits New = omega arith
+source_fits : (source : Source) → length (source_text source) ≤ 6
+source_fits Script = omega arith
+source_fits _ = omega arith
+
+part_fits : (source : Source) → length (part_text source) ≤ 4
+part_fits Script = omega arith
+part_fits _ = omega arith
 
 digits_fit : (number : ℕ) → number < 2 ^ 64 → length (decimal number) ≤ 20
 digits_fit number small = length-decimal-le 20 number (omega arith) (omega arith) small
@@ -39,37 +41,36 @@ one_fits : (first : Bool) (text other : List ℕ) (most : ℕ) → length text �
 one_fits true text other most fits other_fits = fits
 one_fits false text other most fits other_fits = other_fits
 
+whole_fits : (named : Bool) (source : Source) → length (cond named (source_text source ++ codes ": ") []) ≤ 90
+whole_fits named source = one_fits named (source_text source ++ codes ": ") [] 90
+    (simp length-append (omega (arith, source_fits source))) (omega arith)
+
 place_fits : (place : Place) → IsNumbered place → length (place_text place) ≤ 90
-place_fits Nowhere small = omega arith
-place_fits (Word argument) small = omega arith
-place_fits (ScriptLine fault) small = simp length-append (omega (arith, digits_fit fault.line small))
-place_fits (TraceRow fault) small = simp length-append (omega (arith, digits_fit fault.row small))
-place_fits (PolicyRow fault) small = simp length-append (omega (arith, digits_fit fault.row small))
-place_fits (Script side) small = simp length-append (omega (arith, side_fits side))
-place_fits (LineOf side fault) small =
-    simp length-append (omega (arith, side_fits side, digits_fit fault.line small))
-place_fits (LogLine fault) small = simp length-append (omega (arith, digits_fit fault.line small))
-place_fits (NamesRow fault) small = simp length-append (omega (arith, digits_fit fault.row small))
-place_fits (PlanRow fault) small =
-    one_fits (nat_eq fault.row 0) (codes "plan: ") (codes "plan row " ++ (decimal fault.row ++ codes ": ")) 90
-    (omega arith) (simp length-append (omega (arith, digits_fit fault.row small)))
+place_fits (In source number part) small =
+    one_fits (nat_lt 0 number)
+    (source_text source ++ (codes " " ++ (part_text source ++ (codes " " ++ (decimal number ++ codes ": ")))))
+    (cond (is_named_whole source) (source_text source ++ codes ": ") []) 90
+    (simp length-append (omega (arith, source_fits source, part_fits source, digits_fit number small)))
+    (whole_fits (is_named_whole source) source)
 place_fits (PlanRows one other) small =
     simp length-append (omega (arith, digits_fit one small.0, digits_fit other small.1))
 place_fits (PlanEntries row takes found) small =
     simp length-append
     (omega (arith, digits_fit row small.0, digits_fit takes small.1, digits_fit found small.2))
+place_fits Nowhere small = omega arith
+place_fits (Events seen) small = omega arith
 
 pub line_fits : LineFitsLaw
-line_fits refusal place small =
-    let digits = length-decimal-le 2 (number_of refusal) (omega arith) (number_fits refusal)
-    (let small = number_fits refusal in omega arith) in
-    simp length-append (omega (arith, digits, name_fits refusal, place_fits place small))
+line_fits fault small =
+    let digits = length-decimal-le 2 (number_of fault.refusal) (omega arith) (number_fits fault.refusal)
+    (let small = number_fits fault.refusal in omega arith) in
+    simp length-append (omega (arith, digits, name_fits fault.refusal, place_fits fault.place small))
 
 pub hart_line_fits : HartLineFitsLaw
-hart_line_fits name refusal place short small =
-    let digits = length-decimal-le 2 (number_of refusal) (omega arith) (number_fits refusal)
-    (let small = number_fits refusal in omega arith) in
-    simp length-append (omega (arith, short, digits, name_fits refusal, place_fits place small))
+hart_line_fits name fault short small =
+    let digits = length-decimal-le 2 (number_of fault.refusal) (omega arith) (number_fits fault.refusal)
+    (let small = number_fits fault.refusal in omega arith) in
+    simp length-append (omega (arith, short, digits, name_fits fault.refusal, place_fits fault.place small))
 
 left_fits : (left : ℕ) → left < 2 ^ 64 → length (left_text left) ≤ 54
 left_fits left small = one_fits (nat_eq left 0) [] (codes "; writes of other harts left out: " ++ decimal left) 54

@@ -10,8 +10,7 @@ use Rattle.clap.specs.declared.error.kind.ErrorKind.TheVariants.{DisplayHelp, Di
 use Rattle.pmp_text.specs.MetNames.{Named}
 use Rattle.pmp_audit.specs.Answers.{IsRefused}
 use Rattle.pmp_audit.specs.TraceAudit.{AuditSays}
-use Rattle.pmp_audit.specs.declared.fault.ReportFault.{ReportFault}
-use Rattle.pmp_audit.specs.declared.fault.ReportFault.TheVariants as audit
+use Rattle.pmp_text.specs.declared.fault.Fault.{Fault}
 use Rattle.pmp_tool.specs.declared.failure.Failure.{Failure}
 use Rattle.pmp_tool.specs.declared.outcome.Outcome.{Outcome}
 use Rattle.pmp_tool.specs.declared.outcome.Outcome.TheVariants.{Told}
@@ -21,13 +20,11 @@ use Rattle.pmp_tool.specs.declared.request.Question.TheVariants as question
 use Rattle.pmp_tool.specs.declared.request.Request.{Request}
 use Rattle.pmp_tool.specs.declared.request.Request.TheVariants as request
 use Rattle.pmp_tool.specs.declared.row_format.AskedFormat.{AskedFormat}
-use Rattle.pmp_names.specs.declared.address_names.NamesFault.{NamesFault}
 use Rattle.pmp_names.specs.AddressNames.{names_said}
-use Rattle.pmp_names.specs.NameLists.{no_memory as no_memory_for_names}
+use Rattle.pmp_text.specs.Outcomes as outcome
 use Rattle.pmp_tool.specs.CommandLines.{AsksForPieces, MayAskForText, WordsAskFor, pmp_app}
 use Rattle.pmp_tool.specs.Commands.{names_path_in, task_of}
-use Rattle.pmp_tool.specs.Failures.{failure_status, unaudited, unparsed, unparsed_as}
-use Rattle.pmp_tool.specs.Failures.{unnamed as unnamed_so}
+use Rattle.pmp_tool.specs.Failures.{failure_status, unparsed, unparsed_as, failed}
 use Rattle.pmp_tool.specs.Inputs.{AreBytesOf, Inputs, Paths}
 use Rattle.pmp_tool.specs.Runs.{Answers, Does, DoesNot, Fails, IsUnasked, IsUndone, TellingFails, bad_names, does}
 use Rattle.pmp_tool.specs.Runs.{does_not, has_no_text, no_memory, no_output, no_room, no_room_for_names, no_text}
@@ -77,11 +74,11 @@ module _ (words : List Text) (error : Error) where
 
 -- a refusal with status 2 wrote nothing
 refused_keeps : {A : Type 0} (Says : A → List ℕ → Type 0) (before after : Option (List ℕ))
-    (Refuses : ReportFault → Type 0) (fault : ReportFault) → IsRefused Says before after Refuses fault
-    → failure_status (unaudited fault) ≡ 2 → Keeps before after
-refused_keeps Says before after Refuses audit.Memory refused two = absurd cc
-refused_keeps Says before after Refuses audit.Output refused two = absurd cc
-refused_keeps Says before after Refuses fault refused two = refused.1
+    (Refuses : Fault → Type 0) (fault : Fault) → IsRefused Says before after Refuses fault
+    → failure_status (failed fault) ≡ 2 → Keeps before after
+refused_keeps Says before after Refuses fault (inl (output, short)) two =
+    let three : failure_status (failed outcome.no_output) ≡ 2 = rw output at two in absurd cc
+refused_keeps Says before after Refuses fault (inr (declined, keeps)) two = keeps
 
 -- nor did an audit that is refused
 report_keeps : {paths : Paths} {before after : Option (List ℕ)} {path : Text} {audit : Audit} {failure : Failure}
@@ -179,8 +176,8 @@ keeps_at_two (no_text failure asked fails) two = inr (text_keeps fails two)
 keeps_at_two {words = words} (does_not failure fine fails) two = none_kept words fine fails two
 
 -- names that can't be read are why nothing is asked for
-pub names_fail : (found : Option (Text × List Row)) (traces : Inputs) (path text : List ℕ) (fault : NamesFault)
+pub names_fail : (found : Option (Text × List Row)) (traces : Inputs) (path text : List ℕ) (fault : Fault)
     → names_path_in found ≡ Ok (Some path) → AreBytesOf (traces path) text
-    → (fault ≡ no_memory_for_names) ⊎ (names_said text ≡ Err fault) → IsUnasked found traces (unnamed_so fault)
+    → (fault ≡ outcome.no_memory) ⊎ (names_said text ≡ Err fault) → IsUnasked found traces (failed fault)
 names_fail found traces path text fault at is (inl memory) = rw memory no_room_for_names
 names_fail found traces path text fault at is (inr bad) = bad_names path text fault at is bad

@@ -163,19 +163,24 @@ why_in names rows =
     and_then (asked_in when_said argument.After rows) (λ after.
     and_then (access_in names rows) (λ access. Ok (Why access after (is_bare_word argument.Start rows))))
 
+-- neither of two options is used
+abbrev pub neither : (first second : Argument) → List Row → Result (Unit {0}) FaultLine
+neither first second rows =
+    if is_used first rows || is_used second rows then Err (of_no_word BadWord) else Ok tt
+
 -- an audit of a trace that is read as a whole
 abbrev pub whole_audit_in : (script trace : Text) → List Row → Result Task FaultLine
 whole_audit_in script trace rows =
-    if is_used argument.Jobs rows || is_used argument.FirstRow rows then Err (of_no_word BadWord)
-    else and_then (count_in CHECKERS argument.Checkers rows) (λ checkers. Ok (Ask script (Audit trace checkers)))
+    and_then (neither argument.Jobs argument.FirstRow rows) (λ _.
+    and_then (count_in CHECKERS argument.Checkers rows) (λ checkers. Ok (Ask script (Audit trace checkers))))
 
 -- an audit of a trace that is read piece by piece, without names: row 1 is its first where the words don't say it
 abbrev pub long_audit_in : (script trace : Text) → List Row → Result Task FaultLine
 long_audit_in script trace rows =
-    if is_used argument.Checkers rows || is_used argument.Names rows then Err (of_no_word BadWord)
-    else and_then (count_in JOBS argument.Jobs rows) (λ jobs.
+    and_then (neither argument.Checkers argument.Names rows) (λ _.
+    and_then (count_in JOBS argument.Jobs rows) (λ jobs.
     and_then (count_in (2 ^ 64 - 1) argument.FirstRow rows) (λ first.
-    Ok (LongAudit script trace jobs (unwrap_or first 1))))
+    Ok (LongAudit script trace jobs (unwrap_or first 1)))))
 
 -- the trace's path is read before the options
 abbrev pub audit_in : (script : Text) → List Row → Result Task FaultLine

@@ -7,12 +7,12 @@ use Rattle.pmp_text.specs.declared.refusal.Refusal.TheVariants.{BadFolder}
 use Rattle.pmp_names.specs.declared.hart_name.HartName.{HartName}
 use Rattle.pmp_names.specs.HartLists.{names_of}
 use Rattle.pmp_names.specs.HartNames.{HasNoHarts}
-use Rattle.pmp_audit.specs.declared.fault.Side.{Side}
 use Rattle.pmp_tool.specs.declared.failure.Failure.{Failure}
 use Rattle.pmp_tool.specs.declared.harts.Harts.{Harts}
 use Rattle.pmp_tool.specs.Failures.{unread}
 use Rattle.pmp_tool.specs.Harts.{IsNewOfHarts, IsOfHarts}
 use Rattle.pmp_tool.specs.Inputs.{CantBeOpened, Folders, IsFolder}
+use Rattle.pmp_text.specs.declared.fault.Source.{Source}
 
 -- a path has these harts, or isn't a folder
 abbrev pub AreFoundAt : (known : Option (Option (List Text))) → Option (List Text) → Type 0
@@ -25,20 +25,20 @@ AreFoundNew folders new None = IsNewOfHarts folders new false []
 AreFoundNew folders new (Some harts) = IsNewOfHarts folders new true harts
 
 -- a folder can't be read, or has no harts
-abbrev pub IsUnlisted : (side : Option Side) → Failure → Type 0
-IsUnlisted side failure = (fault : Refusal) × CantBeOpened fault × (failure ≡ unread fault side)
+abbrev pub IsUnlisted : (source : Source) → Failure → Type 0
+IsUnlisted source failure = (fault : Refusal) × CantBeOpened fault × (failure ≡ unread fault source)
 
-abbrev pub IsUnfit : (files : List Text) → (side : Option Side) → Failure → Type 0
-IsUnfit files side failure = (fault : Refusal) × HasNoHarts files fault × (failure ≡ unread fault side)
+abbrev pub IsUnfit : (files : List Text) → (source : Source) → Failure → Type 0
+IsUnfit files source failure = (fault : Refusal) × HasNoHarts files fault × (failure ≡ unread fault source)
 
 -- a path can't be read, or has no harts
-pub data AreUnfoundAt (known : Option (Option (List Text))) (side : Option Side) : Failure → Type 0 where
-  unlisted : (fault : Refusal) → CantBeOpened fault → AreUnfoundAt known side (unread fault side)
+pub data AreUnfoundAt (known : Option (Option (List Text))) (source : Source) : Failure → Type 0 where
+  unlisted : (fault : Refusal) → CantBeOpened fault → AreUnfoundAt known source (unread fault source)
   unfit : (fault : Refusal) (files : List Text) → IsFolder known (Some files) → HasNoHarts files fault
-      → AreUnfoundAt known side (unread fault side)
+      → AreUnfoundAt known source (unread fault source)
 
 abbrev pub AreUnfoundNew : Folders → (new : Option Text) → Failure → Type 0
-AreUnfoundNew folders new failure = (path : Text) × (side : Option Side) × AreUnfoundAt (folders path) side failure
+AreUnfoundNew folders new failure = (path : Text) × (source : Source) × AreUnfoundAt (folders path) source failure
 
 -- the harts of an old folder and of a new one, if there are any
 abbrev pub AreJoined : (old new : Option (List Text)) → Option Harts → Type 0

@@ -13,9 +13,10 @@ use Rattle.pmp_tool.specs.declared.harts.Harts.{Harts}
 use Rattle.pmp_tool.specs.declared.outcome.Outcome.{Outcome}
 use Rattle.pmp_tool.specs.declared.request.Question.{Question}
 use Rattle.pmp_tool.specs.Commands.{Diff, Query, query_of}
-use Rattle.pmp_tool.specs.Failures.{refused}
+use Rattle.pmp_tool.specs.Failures.{refused, unread}
 use Rattle.pmp_tool.specs.Harts.{HartsFail, HartsSay, IsOfHarts, path_on}
 use Rattle.pmp_tool.specs.Inputs.{CantBeOpened, CantBeRead, IsFolder, Paths}
+use Rattle.pmp_text.specs.declared.fault.Source.TheVariants.{Script}
 
 -- a comparison of all bytes with each hart's script of a folder
 abbrev pub compared_with : (folder : Text) (has_locks : Bool) → Query
@@ -41,12 +42,12 @@ module _ (paths : Paths) (folder : Text) (has_locks : Bool) where
 
   -- why they weren't: no folder is there, or it has no harts, or a hart has no answer
   pub data ComparisonFails : Failure → Type 0 where
-    unlisted : (fault : Refusal) → CantBeOpened fault → ComparisonFails (refused fault)
+    unlisted : (fault : Refusal) → CantBeOpened fault → ComparisonFails (unread fault Script)
     unread_file : (fault : Refusal) → IsFolder (paths.folders folder) None
         → CantBeRead MAX_HEADED_SCRIPT (paths.scripts folder) fault → ComparisonFails (refused fault)
     no_folder : IsFolder (paths.folders folder) None → ComparisonFails (refused BadFolder)
     unfit : (fault : Refusal) (files : List Text) → IsFolder (paths.folders folder) (Some files) → HasNoHarts files fault
-        → ComparisonFails (refused fault)
+        → ComparisonFails (unread fault Script)
     no_room_for_path : ComparisonFails (refused Memory)
     uncompared : (first : Text) (one : Question) (harts : Harts) (failure : Failure) → IsComparison first one harts
         → HartsFail paths (path_on true folder first) one harts failure → ComparisonFails failure

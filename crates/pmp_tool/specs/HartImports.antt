@@ -4,7 +4,7 @@ use Rattle.std.specs.Prelude.{All, if◌then◌else◌}
 use Rattle.clap.specs.Words.{Text}
 use Rattle.pmp_import.specs.Imports.{Stops}
 use Rattle.pmp_import.specs.Surveys.{surveyed}
-use Rattle.pmp_import.specs.declared.fault.ImportFault.{ImportFault}
+use Rattle.pmp_text.specs.declared.fault.Fault.{Fault}
 use Rattle.pmp_import.specs.declared.format.Format.{Format}
 use Rattle.pmp_import.specs.declared.survey.Survey.{Survey}
 use Rattle.pmp_text.specs.Lines.{lines}
@@ -17,7 +17,7 @@ use Rattle.pmp_tool.specs.declared.note.Note.TheVariants.{Scripts}
 use Rattle.pmp_tool.specs.declared.outcome.Outcome.{Outcome}
 use Rattle.pmp_tool.specs.declared.outcome.Outcome.TheVariants.{Imported}
 use Rattle.pmp_tool.specs.declared.request.Import.{Import}
-use Rattle.pmp_tool.specs.Failures.{in_memory, refused, unimported}
+use Rattle.pmp_tool.specs.Failures.{in_memory, refused, failed}
 use Rattle.pmp_tool.specs.HartScripts.{AreMade, CantBeMade}
 use Rattle.pmp_tool.specs.Inputs.{AreBytesOf, CantBeOpened, Paths}
 use Rattle.pmp_tool.specs.Streams.{ImportFails, ImportSays}
@@ -45,8 +45,8 @@ pub record IsFound (known : Option (List ℕ)) (format : Format) (survey : Surve
 -- a log can't be surveyed
 pub data IsUnfound (known : Option (List ℕ)) (format : Format) : Failure → Type 0 where
   unopened : (fault : Refusal) → CantBeOpened fault → IsUnfound known format (refused fault)
-  unsurveyed : (log : List ℕ) (fault : ImportFault) → AreBytesOf known log
-      → Stops (surveyed format None) log fault → IsUnfound known format (unimported fault)
+  unsurveyed : (log : List ℕ) (fault : Fault) → AreBytesOf known log
+      → Stops (surveyed format None) log fault → IsUnfound known format (failed fault)
 
 module _ (paths : Paths) (import : Import) where
   -- the text is the script of this hart's import

@@ -12,7 +12,6 @@ use Rattle.pmp_names.specs.declared.hart_name.HartName.{HartName}
 use Rattle.pmp_names.specs.HartLists.{names_of}
 use Rattle.pmp_names.specs.HartNames.{AreHarts, HasNoHarts}
 use Rattle.pmp_names.specs.WholeRows.{whole}
-use Rattle.pmp_audit.specs.declared.fault.Side.{Side}
 use Rattle.pmp_tool.specs.declared.failure.Failure.{Failure}
 use Rattle.pmp_tool.specs.declared.harts.Harts.{Harts}
 use Rattle.pmp_tool.specs.declared.outcome.Outcome.{Outcome}
@@ -24,6 +23,7 @@ use Rattle.pmp_tool.specs.Failures.{of_hart, refused, unread}
 use Rattle.pmp_tool.specs.Inputs.{CantBeOpened, Folders, IsFolder, Paths}
 use Rattle.pmp_tool.specs.Outcomes.{outcome_status}
 use Rattle.pmp_tool.specs.Questions.{PathFails, PathSays}
+use Rattle.pmp_text.specs.declared.fault.Source.{Source}
 
 -- ---- the harts that a question is for
 
@@ -70,9 +70,9 @@ module _ (folders : Folders) (path : Text) (question : Question) where
 
   -- why harts aren't found: a folder can't be read or has none, two have different harts, or stdin is an input
   pub data AreUnfound : Failure → Type 0 where
-    unread_folder : (fault : Refusal) (side : Option Side) → CantBeOpened fault → AreUnfound (unread fault side)
-    no_harts : (fault : Refusal) (side : Option Side) (at : Text) (files : List Text)
-        → IsFolder (folders at) (Some files) → HasNoHarts files fault → AreUnfound (unread fault side)
+    unread_folder : (fault : Refusal) (source : Source) → CantBeOpened fault → AreUnfound (unread fault source)
+    no_harts : (fault : Refusal) (source : Source) (at : Text) (files : List Text)
+        → IsFolder (folders at) (Some files) → HasNoHarts files fault → AreUnfound (unread fault source)
     other_harts : (old new : List Text) → IsOfHarts (folders path) true old
         → IsNewOfHarts folders (new_script question) true new → (old ≡ new → ⊥) → AreUnfound (refused BadFolder)
     one_reading : reads_stdin path question ≡ true → AreUnfound (refused BadWord)

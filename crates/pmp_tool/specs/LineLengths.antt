@@ -1,11 +1,10 @@
 -- How long the line for a refusal is, and for a note.
 use Rattle.std.specs.Prelude.{ℕ, List, ◌<◌, ◌≤◌, ◌^◌, length, ⊤}
-use Rattle.pmp_text.specs.declared.refusal.Refusal.{Refusal}
+use Rattle.pmp_text.specs.declared.fault.Fault.{Fault}
+use Rattle.pmp_text.specs.declared.fault.Place.{Place}
+use Rattle.pmp_text.specs.declared.fault.Place.TheVariants.{In, PlanEntries, PlanRows}
 use Rattle.pmp_names.specs.declared.hart_name.TheConstants.{HART_NAME}
 use Rattle.pmp_tool.specs.FaultLines.{hart_line_text, line_text}
-use Rattle.pmp_tool.specs.declared.fault_line.Place.{Place}
-use Rattle.pmp_tool.specs.declared.fault_line.Place.TheVariants.{ScriptLine, TraceRow, PolicyRow, LineOf, LogLine}
-use Rattle.pmp_tool.specs.declared.fault_line.Place.TheVariants.{NamesRow, PlanRow, PlanRows, PlanEntries}
 use Rattle.pmp_tool.specs.declared.fault_line.TheConstants.{LONGEST_LINE, LONGEST_OF_HART}
 use Rattle.pmp_tool.specs.Notes.{note_line}
 use Rattle.pmp_tool.specs.declared.note.Note.{Note}
@@ -14,25 +13,19 @@ use Rattle.pmp_tool.specs.declared.note.TheConstants.{LONGEST_NOTE}
 
 -- each number of a place fits in 64 bits
 abbrev pub IsNumbered : Place → Type 0
-IsNumbered (ScriptLine fault) = fault.line < 2 ^ 64
-IsNumbered (TraceRow fault) = fault.row < 2 ^ 64
-IsNumbered (PolicyRow fault) = fault.row < 2 ^ 64
-IsNumbered (LineOf side fault) = fault.line < 2 ^ 64
-IsNumbered (LogLine fault) = fault.line < 2 ^ 64
-IsNumbered (NamesRow fault) = fault.row < 2 ^ 64
-IsNumbered (PlanRow fault) = fault.row < 2 ^ 64
+IsNumbered (In source number part) = number < 2 ^ 64
 IsNumbered (PlanRows one other) = (one < 2 ^ 64) × (other < 2 ^ 64)
 IsNumbered (PlanEntries row takes found) = (row < 2 ^ 64) × (takes < 2 ^ 64) × (found < 2 ^ 64)
 IsNumbered _ = ⊤
 
--- a refusal's line, with its LF, fits in the program's buffer for it
+-- a fault's line, with its LF, fits in the program's buffer for it
 abbrev pub LineFitsLaw : Type 0
-LineFitsLaw = (refusal : Refusal) (place : Place) → IsNumbered place → length (line_text refusal place) ≤ LONGEST_LINE
+LineFitsLaw = (fault : Fault) → IsNumbered fault.place → length (line_text fault) ≤ LONGEST_LINE
 
 -- and so does that for one of several harts
 abbrev pub HartLineFitsLaw : Type 0
-HartLineFitsLaw = (name : List ℕ) (refusal : Refusal) (place : Place) → length name ≤ HART_NAME → IsNumbered place
-    → length (hart_line_text name refusal place) ≤ LONGEST_OF_HART
+HartLineFitsLaw = (name : List ℕ) (fault : Fault) → length name ≤ HART_NAME → IsNumbered fault.place
+    → length (hart_line_text name fault) ≤ LONGEST_OF_HART
 
 abbrev pub IsNumberedNote : Note → Type 0
 IsNumberedNote note.Start = ⊤

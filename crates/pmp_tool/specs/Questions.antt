@@ -10,13 +10,11 @@ use Rattle.pmp_text.specs.declared.refusal.Refusal.{Refusal}
 use Rattle.pmp_text.specs.declared.refusal.Refusal.TheVariants.{NoRows}
 use Rattle.pmp_text.specs.declared.script.reader.TheConstants.{MAX_HEADED_SCRIPT}
 use Rattle.pmp_text.specs.declared.trace.reader.TheConstants.{MAX_TRACE}
-use Rattle.pmp_audit.specs.declared.fault.ReportFault.{ReportFault}
-use Rattle.pmp_audit.specs.declared.fault.Side.{Side}
-use Rattle.pmp_audit.specs.declared.fault.Side.TheVariants.{New, Old}
+use Rattle.pmp_text.specs.declared.fault.Fault.{Fault}
 use Rattle.pmp_audit.specs.declared.policy_check.PolicySummary.{PolicySummary}
 use Rattle.pmp_audit.specs.AccessCheck.{CheckSays}
 use Rattle.pmp_audit.specs.Answers.{Declines}
-use Rattle.pmp_audit.specs.AskedFile.{FileRefuses}
+use Rattle.pmp_audit.specs.AskedFile.{FileRefuses, ScriptRefuses}
 use Rattle.pmp_audit.specs.AuditedRows.{AuditRowsSay}
 use Rattle.pmp_audit.specs.PolicyCheck.{PolicyRefuses}
 use Rattle.pmp_audit.specs.PolicyTexts.{PolicySays}
@@ -24,7 +22,7 @@ use Rattle.pmp_audit.specs.Reasons.{FindingsSay, ReasonsSay}
 use Rattle.pmp_audit.specs.ScriptDiff.{DiffRefuses, DiffSays}
 use Rattle.pmp_audit.specs.TraceAudit.{AuditRefuses}
 use Rattle.pmp_audit.specs.View.{ListingSays}
-use Rattle.pmp_audit.specs.WriteList.{WritesRefuse, WritesSay}
+use Rattle.pmp_audit.specs.WriteList.{WritesSay}
 use Rattle.pmp_tool.specs.declared.argument.Argument.{Argument}
 use Rattle.pmp_tool.specs.declared.argument.Argument.TheVariants as argument
 use Rattle.pmp_tool.specs.declared.failure.Failure.{Failure}
@@ -35,14 +33,16 @@ use Rattle.pmp_tool.specs.declared.outcome.Outcome.TheVariants.{Audited, Compare
 use Rattle.pmp_tool.specs.declared.request.Policy.{Policy as AskedPolicy}
 use Rattle.pmp_tool.specs.declared.request.Question.{Question}
 use Rattle.pmp_tool.specs.declared.request.Question.TheVariants as question
-use Rattle.pmp_tool.specs.Failures.{refused, unaudited, unread}
+use Rattle.pmp_tool.specs.Failures.{refused, unread, failed}
 use Rattle.pmp_tool.specs.Inputs.{AreBytesOf, CantBeRead, Paths}
 use Rattle.pmp_tool.specs.Words.{bad_word}
+use Rattle.pmp_text.specs.declared.fault.Source.{Source}
+use Rattle.pmp_text.specs.declared.fault.Source.TheVariants as source
 
--- which side the script is on, if there are two
-abbrev pub old_side : Question → Option Side
-old_side (question.Diff diff) = Some Old
-old_side _ = None
+-- which script it is, if there are two
+abbrev pub script_source : Question → Source
+script_source (question.Diff diff) = source.Old
+script_source _ = source.Script
 
 -- words may name moments of the script
 abbrev pub has_names : (script : List ℕ) → Bool
@@ -92,21 +92,21 @@ RowsSay _ _ _ _ _ = ⊥
 -- ---- why there are none
 
 -- a call refuses, or memory ran out
-pub record IsDeclined (Refuses : ReportFault → Type 0) (failure : Failure) : Type 0 where
-  pub fault : ReportFault
-  pub is : failure ≡ unaudited fault
+pub record IsDeclined (Refuses : Fault → Type 0) (failure : Failure) : Type 0 where
+  pub fault : Fault
+  pub is : failure ≡ failed fault
   pub declined : Declines Refuses fault
 
--- an input can't be read, of two scripts the one on this side, or processing its bytes fails
-pub data InputFails (limit : ℕ) (known : Option (List ℕ)) (side : Option Side) (Fails : List ℕ → Failure → Type 0)
+-- an input can't be read, which is this failure, or processing its bytes fails
+pub data InputFails (limit : ℕ) (known : Option (List ℕ)) (cant : Refusal → Failure) (Fails : List ℕ → Failure → Type 0)
     : Failure → Type 0 where
-  unread_input : (fault : Refusal) → CantBeRead limit known fault → InputFails limit known side Fails (unread fault side)
+  unread_input : (fault : Refusal) → CantBeRead limit known fault → InputFails limit known cant Fails (cant fault)
   read_input : (bytes : List ℕ) (failure : Failure) → AreBytesOf known bytes → Fails bytes failure
-      → InputFails limit known side Fails failure
+      → InputFails limit known cant Fails failure
 
 -- the same for a trace or a policy
 abbrev pub TraceFails : (known : Option (List ℕ)) → (List ℕ → Failure → Type 0) → Failure → Type 0
-TraceFails known = InputFails MAX_TRACE known None
+TraceFails known = InputFails MAX_TRACE known refused
 
 -- an argument names a moment of a script whose version has none, or what follows fails
 pub data MomentFails (script : List ℕ) (argument : Argument) (when : Option When) (Fails : Failure → Type 0)
@@ -133,11 +133,11 @@ RowsFail paths script (question.Audit audit) =
 RowsFail paths script (question.Policy policy) = TraceFails (paths.traces policy.path.now) (PolicyFails policy script)
 RowsFail paths script (question.List listing after) =
     MomentFails script argument.After after (IsDeclined (FileRefuses script after))
-RowsFail paths script (question.Writes accepted) = IsDeclined (WritesRefuse script)
-RowsFail paths script (question.Lint accepted) = IsDeclined (WritesRefuse script)
+RowsFail paths script (question.Writes accepted) = IsDeclined (ScriptRefuses script)
+RowsFail paths script (question.Lint accepted) = IsDeclined (ScriptRefuses script)
 RowsFail paths script (question.Diff diff) =
     MomentFails script argument.OldAfter diff.old_after
-    (InputFails MAX_HEADED_SCRIPT (paths.scripts diff.new.now) (Some New)
+    (InputFails MAX_HEADED_SCRIPT (paths.scripts diff.new.now) (λ fault. unread fault source.New)
     (λ new. MomentFails new argument.NewAfter diff.new_after
     (IsDeclined (DiffRefuses script diff.old_after new diff.new_after))))
 
@@ -161,6 +161,6 @@ module _ (paths : Paths) (path : List ℕ) (question : Question) where
 
   pub data PathFails : Failure → Type 0 where
     no_script : (fault : Refusal) → CantBeRead MAX_HEADED_SCRIPT (paths.scripts path) fault
-        → PathFails (unscripted (listed_at question) (unread fault (old_side question)))
+        → PathFails (unscripted (listed_at question) (unread fault (script_source question)))
     of_script : (script : List ℕ) (failure : Failure) → AreBytesOf (paths.scripts path) script
         → RowsFail paths script question failure → PathFails failure

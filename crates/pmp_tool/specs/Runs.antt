@@ -8,7 +8,7 @@ use Rattle.pmp_text.specs.MetNames.{Named}
 use Rattle.pmp_text.specs.declared.refusal.Refusal.{Refusal}
 use Rattle.pmp_text.specs.declared.refusal.Refusal.TheVariants.{Memory, Output}
 use Rattle.pmp_text.specs.declared.trace.reader.TheConstants.{MAX_TRACE}
-use Rattle.pmp_names.specs.declared.address_names.NamesFault.{NamesFault}
+use Rattle.pmp_text.specs.declared.fault.Fault.{Fault}
 use Rattle.pmp_names.specs.AddressNames.{names_said}
 use Rattle.pmp_tool.specs.declared.failure.Failure.{Failure}
 use Rattle.pmp_tool.specs.declared.failure.Failure.TheVariants.{Refused, Words}
@@ -22,7 +22,7 @@ use Rattle.pmp_tool.specs.declared.request.Request.TheVariants as request
 use Rattle.pmp_tool.specs.declared.row_format.AskedFormat.{AskedFormat}
 use Rattle.pmp_tool.specs.CommandLines.{IsRefusedCommandLine, MayAskForText, pmp_app}
 use Rattle.pmp_tool.specs.Commands.{asked_of, names_path_in, task_of}
-use Rattle.pmp_tool.specs.Failures.{refused, unnamed}
+use Rattle.pmp_tool.specs.Failures.{refused, failed}
 use Rattle.pmp_tool.specs.HartImports.{CantMake, Makes}
 use Rattle.pmp_tool.specs.Inputs.{AreBytesOf, CantBeRead, Inputs, Paths}
 use Rattle.pmp_tool.specs.NumberedInputs.{paths_for}
@@ -54,8 +54,8 @@ module _ (found : Option (Text × List Row)) (traces : Inputs) where
     twice : (fault : FaultLine) → names_path_in found ≡ Err fault → IsUnasked (Refused fault)
     no_names : (path : Text) (fault : Refusal) → names_path_in found ≡ Ok (Some path)
         → CantBeRead MAX_TRACE (traces path) fault → IsUnasked (refused fault)
-    bad_names : (path text : List ℕ) (fault : NamesFault) → names_path_in found ≡ Ok (Some path)
-        → AreBytesOf (traces path) text → names_said text ≡ Err fault → IsUnasked (unnamed fault)
+    bad_names : (path text : List ℕ) (fault : Fault) → names_path_in found ≡ Ok (Some path)
+        → AreBytesOf (traces path) text → names_said text ≡ Err fault → IsUnasked (failed fault)
     no_room_for_names : IsUnasked (refused Memory)
     refused_word : (path : Option Text) (names : Option (List Named)) (fault : FaultLine)
         → names_path_in found ≡ Ok path → AreNamesAt traces path names

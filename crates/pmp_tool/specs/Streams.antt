@@ -2,7 +2,7 @@
 use Rattle.std.specs.Prelude.{◌≡◌, ◌⊎◌, ℕ, List, Option, Some, None, Ok, Err, true, false, codes, bytes_eq}
 use Rattle.std.specs.Io.KnownBytes.{Keeps}
 use Rattle.clap.specs.Words.{Text}
-use Rattle.pmp_import.specs.declared.fault.ImportFault.{ImportFault}
+use Rattle.pmp_text.specs.declared.fault.Fault.{Fault}
 use Rattle.pmp_import.specs.declared.given.Given.{Given}
 use Rattle.pmp_import.specs.declared.survey.Survey.{Survey}
 use Rattle.pmp_import.specs.Imported.{imported}
@@ -12,7 +12,6 @@ use Rattle.pmp_text.specs.Lines.{lines}
 use Rattle.pmp_text.specs.declared.refusal.Refusal.{Refusal}
 use Rattle.pmp_text.specs.declared.script.reader.TheConstants.{MAX_HEADED_SCRIPT}
 use Rattle.pmp_text.specs.declared.trace.reader.TheConstants.{MAX_TRACE}
-use Rattle.pmp_audit.specs.declared.fault.ReportFault.{ReportFault}
 use Rattle.pmp_audit.specs.declared.long_audit.TheConstants.{PIECE}
 use Rattle.pmp_audit.specs.Answers.{IsRefused, IsWritten}
 use Rattle.pmp_audit.specs.LongAudit.{LongAuditSays, StopsLong}
@@ -30,7 +29,7 @@ use Rattle.pmp_tool.specs.declared.request.Question.TheVariants as question
 use Rattle.pmp_tool.specs.declared.request.Printed.TheVariants as printed
 use Rattle.pmp_tool.specs.declared.request.Request.{Request}
 use Rattle.pmp_tool.specs.declared.request.Request.TheVariants as request
-use Rattle.pmp_tool.specs.Failures.{refused, unaudited, unimported}
+use Rattle.pmp_tool.specs.Failures.{refused, failed}
 use Rattle.pmp_tool.specs.Harts.{AreFound}
 use Rattle.pmp_tool.specs.Inputs.{AreBytesOf, CantBeOpened, CantBeRead, Inputs, Paths}
 
@@ -60,21 +59,21 @@ pub data ImportFails (known : Option (List ℕ)) (import : Import) (before after
   where
     unopened : (fault : Refusal) → CantBeOpened fault → Keeps before after
         → ImportFails known import before after (refused fault)
-    unsurveyed : (seen : List ℕ) (fault : ImportFault) → AreBytesOf known seen
+    unsurveyed : (seen : List ℕ) (fault : Fault) → AreBytesOf known seen
         → Stops (surveyed import.format import.options.hart) seen fault → Keeps before after
-        → ImportFails known import before after (unimported fault)
-    ungiven : (seen : List ℕ) (survey : Survey) (fault : ImportFault) → AreBytesOf known seen
+        → ImportFails known import before after (failed fault)
+    ungiven : (seen : List ℕ) (survey : Survey) (fault : Fault) → AreBytesOf known seen
         → surveyed import.format import.options.hart (lines seen) ≡ Ok survey
         → given_for import.format import.options survey ≡ Err fault → Keeps before after
-        → ImportFails known import before after (unimported fault)
-    unwritten : (given : Given) (note : Note) (log : List ℕ) (fault : ImportFault) → IsGiven known import given note
+        → ImportFails known import before after (failed fault)
+    unwritten : (given : Given) (note : Note) (log : List ℕ) (fault : Fault) → IsGiven known import given note
         → AreBytesOf known log → Stops (imported given) log fault → WroteFront given log before after fault
-        → ImportFails known import before after (unimported fault)
+        → ImportFails known import before after (failed fault)
 
 -- ---- audits
 
 -- which faults an audit is refused for; several checkers may also lack a place
-abbrev pub AuditByRefuses : (checkers : Option ℕ) (script trace : List ℕ) → ReportFault → Type 0
+abbrev pub AuditByRefuses : (checkers : Option ℕ) (script trace : List ℕ) → Fault → Type 0
 AuditByRefuses None script trace fault = AuditRefuses script trace fault
 AuditByRefuses (Some count) script trace fault = SharedAuditRefuses script trace fault
 
@@ -103,19 +102,19 @@ module _ (paths : Paths) (before after : Option (List ℕ)) where
         → ReportFails path audit (refused fault)
     no_trace : (fault : Refusal) → CantBeRead MAX_TRACE (paths.traces audit.trace.now) fault → Keeps before after
         → ReportFails path audit (refused fault)
-    unaudited_trace : (script trace : List ℕ) (fault : ReportFault) → AreBytesOf (paths.scripts path) script
+    unaudited_trace : (script trace : List ℕ) (fault : Fault) → AreBytesOf (paths.scripts path) script
         → AreBytesOf (paths.traces audit.trace.now) trace
         → IsRefused (AuditSays script trace) before after (AuditByRefuses audit.checkers script trace) fault
-        → ReportFails path audit (unaudited fault)
+        → ReportFails path audit (failed fault)
 
   pub data LongReportFails (audit : LongAudit) : Failure → Type 0 where
     no_long_script : (fault : Refusal) → CantBeRead MAX_HEADED_SCRIPT (paths.scripts audit.script.now) fault
         → Keeps before after → LongReportFails audit (refused fault)
     no_long_trace : (fault : Refusal) → CantBeOpened fault → Keeps before after → LongReportFails audit (refused fault)
     -- perhaps after whole rows
-    stopped : (script trace : List ℕ) (fault : ReportFault) → AreBytesOf (paths.scripts audit.script.now) script
+    stopped : (script trace : List ℕ) (fault : Fault) → AreBytesOf (paths.scripts audit.script.now) script
         → AreBytesOf (paths.traces audit.trace.now) trace → StopsLong PIECE script audit.first trace before after fault
-        → LongReportFails audit (unaudited fault)
+        → LongReportFails audit (failed fault)
 
   -- ---- the three requests
 

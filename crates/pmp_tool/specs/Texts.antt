@@ -9,11 +9,11 @@ use Rattle.pmp_text.specs.declared.refusal.Refusal.{Refusal}
 use Rattle.pmp_text.specs.declared.refusal.Refusal.TheVariants.{Memory}
 use Rattle.pmp_text.specs.declared.script.reader.TheConstants.{MAX_HEADED_SCRIPT}
 use Rattle.pmp_names.specs.WholeRows.{whole}
-use Rattle.pmp_plan.specs.declared.answer.AnswerFault.{AnswerFault}
+use Rattle.pmp_text.specs.declared.fault.Fault.{Fault}
 use Rattle.pmp_plan.specs.PlanAnswers.{PlanFails, Tells}
-use Rattle.pmp_plan.specs.PlansOf.{HasNoPlan, IsPlanOfScript, Leaves, LeavesNone}
-use Rattle.pmp_audit.specs.AskedFile.{FileRefuses}
-use Rattle.pmp_audit.specs.PolicyDraft.{DraftRefuses, DraftSays}
+use Rattle.pmp_plan.specs.PlansOf.{IsPlanOfScript, Leaves, LeavesNone}
+use Rattle.pmp_audit.specs.AskedFile.{FileRefuses, ScriptRefuses}
+use Rattle.pmp_audit.specs.PolicyDraft.{DraftSays}
 use Rattle.pmp_audit.specs.View.{ViewSays}
 use Rattle.pmp_tool.specs.declared.argument.Argument.TheVariants.{After}
 use Rattle.pmp_tool.specs.declared.failure.Failure.{Failure}
@@ -25,7 +25,7 @@ use Rattle.pmp_tool.specs.declared.request.Question.{Question}
 use Rattle.pmp_tool.specs.declared.request.Printed.{Printed}
 use Rattle.pmp_tool.specs.declared.request.Printed.TheVariants as printed
 use Rattle.pmp_tool.specs.declared.row_format.AskedFormat.{AskedFormat}
-use Rattle.pmp_tool.specs.Failures.{refused, unplanned}
+use Rattle.pmp_tool.specs.Failures.{refused, failed}
 use Rattle.pmp_tool.specs.HartComparisons.{ComparisonFails, ComparisonSays}
 use Rattle.pmp_tool.specs.Harts.{AreFound, AreUnfound, HartsFail, HartsSay}
 use Rattle.pmp_tool.specs.Inputs.{AreBytesOf, CantBeRead, Inputs, Paths}
@@ -46,9 +46,9 @@ module _ (scripts : Inputs) where
   pub data NoStart (plan : Plan) : Failure → Type 0 where
     unread_start : (path : Text) (fault : Refusal) → option_map (λ path. path.now) plan.from ≡ Some path
         → CantBeRead MAX_HEADED_SCRIPT (scripts path) fault → NoStart plan (refused fault)
-    no_start : (path : Text) (script : List ℕ) (fault : AnswerFault)
+    no_start : (path : Text) (script : List ℕ) (fault : Fault)
         → option_map (λ path. path.now) plan.from ≡ Some path → AreBytesOf (scripts path) script
-        → LeavesNone script fault → NoStart plan (unplanned fault)
+        → LeavesNone script fault → NoStart plan (failed fault)
 
   pub record PlanTextSays (plan : Plan) (text : List ℕ) : Type 0 where
     pub rows : List ℕ
@@ -61,9 +61,9 @@ module _ (scripts : Inputs) where
     no_plan_text : (fault : Refusal) → CantBeRead MAX_HEADED_SCRIPT (scripts plan.plan.now) fault
         → PlanTextFails plan (refused fault)
     unstarted : (failure : Failure) → NoStart plan failure → PlanTextFails plan failure
-    unplanned_rows : (rows : List ℕ) (start : RegisterFile) (fault : AnswerFault)
+    unplanned_rows : (rows : List ℕ) (start : RegisterFile) (fault : Fault)
         → AreBytesOf (scripts plan.plan.now) rows → IsStart plan start
-        → PlanFails start plan.wanted.aim rows fault → PlanTextFails plan (unplanned fault)
+        → PlanFails start plan.wanted.aim rows fault → PlanTextFails plan (failed fault)
 
   -- ---- texts of one script
 
@@ -78,18 +78,10 @@ module _ (scripts : Inputs) where
     unshown : (script : List ℕ) (failure : Failure) → AreBytesOf (scripts path) script
         → MomentFails script After when (IsDeclined (FileRefuses script when)) failure → ShowFails path when failure
 
-  pub record IsUnplanned (Fails : AnswerFault → Type 0) (failure : Failure) : Type 0 where
-    pub fault : AnswerFault
-    pub is : failure ≡ unplanned fault
-    pub fails : Fails fault
-
-  abbrev pub PlanOfFails : (path : Text) → Failure → Type 0
-  PlanOfFails path =
-      InputFails MAX_HEADED_SCRIPT (scripts path) None (λ script. IsUnplanned (HasNoPlan script))
-
-  abbrev pub DraftFails : (path : Text) → Failure → Type 0
-  DraftFails path =
-      InputFails MAX_HEADED_SCRIPT (scripts path) None (λ script. IsDeclined (DraftRefuses script))
+  -- the script can't be read, or is none
+  abbrev pub ScriptFails : (path : Text) → Failure → Type 0
+  ScriptFails path =
+      InputFails MAX_HEADED_SCRIPT (scripts path) refused (λ script. IsDeclined (ScriptRefuses script))
 
 -- the names of ranges are given, if any are
 module _ (paths : Paths) (names : Option (List Named)) where
@@ -132,8 +124,8 @@ module _ (paths : Paths) (names : Option (List Named)) where
   PrintedFails (printed.Harts folder has_locks) = ComparisonFails paths folder.now has_locks
   PrintedFails (printed.Show show) = ShowFails paths.scripts show.script.now show.after
   PrintedFails (printed.Plan plan) = PlanTextFails paths.scripts plan
-  PrintedFails (printed.PlanOf path) = PlanOfFails paths.scripts path.now
-  PrintedFails (printed.PolicyFrom path) = DraftFails paths.scripts path.now
+  PrintedFails (printed.PlanOf path) = ScriptFails paths.scripts path.now
+  PrintedFails (printed.PolicyFrom path) = ScriptFails paths.scripts path.now
 
   -- it has no answer, or memory ran out
   abbrev pub TextFails : Printed → Failure → Type 0

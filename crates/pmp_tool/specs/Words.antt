@@ -11,7 +11,6 @@ use Rattle.pmp_text.specs.Numbers.{is_bare, word_number}
 use Rattle.pmp_tool.specs.declared.argument.Argument.{Argument}
 use Rattle.pmp_tool.specs.declared.expected.Expected.{Expected}
 use Rattle.pmp_tool.specs.declared.expected.Expected.TheVariants.{Allow, Fault}
-use Rattle.pmp_tool.specs.declared.fault_line.Place.TheVariants.{Nowhere, Word}
 use Rattle.pmp_text.specs.declared.refusal.Refusal.{Refusal}
 use Rattle.pmp_text.specs.declared.refusal.Refusal.TheVariants.{BadWord}
 use Rattle.pmp_tool.specs.declared.fault_line.FaultLine.{FaultLine}
@@ -19,6 +18,7 @@ use Rattle.pmp_tool.specs.declared.word.Grain.{Grain}
 use Rattle.pmp_tool.specs.declared.word.Smepmp.{Smepmp}
 use Rattle.pmp_tool.specs.declared.word.Xlen.{Xlen}
 use Rattle.pmp_tool.specs.Arguments.{id_of}
+use Rattle.pmp_text.specs.FaultPlaces.{somewhere}
 
 -- the answer that a word names
 abbrev pub expected_named : Text → Option Expected
@@ -64,11 +64,11 @@ grain_named word =
 
 -- a refusal of no single word
 abbrev pub of_no_word : Refusal → FaultLine
-of_no_word refusal = record { refusal = refusal; place = Nowhere }
+of_no_word refusal = record { fault = somewhere refusal; argument = None }
 
 -- a word of the command line is refused
 abbrev pub of_word : Argument → Refusal → FaultLine
-of_word argument refusal = record { refusal = refusal; place = Word argument }
+of_word argument refusal = record { fault = somewhere refusal; argument = Some argument }
 
 -- an argument's word isn't of its form
 abbrev pub bad_word : Argument → FaultLine

@@ -4,7 +4,7 @@ ghost use Rattle.std.specs.Prelude.{◌≡◌, map, option_map};
 ghost use Rattle.clap.specs.Words.{found_of, rows_of, subcommand_rows_of};
 ghost use Rattle.pmp_text.specs.MetNames.{named};
 ghost use Rattle.pmp_tool.specs.Commands.{Ask, access_in, access_task, asked_of, audit_in, check_in, command_named, diff_in};
-ghost use Rattle.pmp_tool.specs.Commands.{from_in, lint_in, list_in, long_audit_in, names_path_in, path_in, plan_in};
+ghost use Rattle.pmp_tool.specs.Commands.{from_in, lint_in, list_in, long_audit_in, neither, names_path_in, path_in, plan_in};
 ghost use Rattle.pmp_tool.specs.Commands.{plan_of_in, policy_from_in, policy_in, query_of, reads_stdin, second_in};
 ghost use Rattle.pmp_tool.specs.Commands.{show_in, start_in, task_in, task_of, verdicts_in, wanted_in, whole_audit_in};
 ghost use Rattle.pmp_tool.specs.Commands.{why_in, writes_in};
@@ -202,6 +202,16 @@ fn read_audit<'a>(script: &'a str, words: &ArgMatches<'a>) -> Result<Request<'a>
     }
 }
 
+/// Refuses two options that this audit doesn't take.
+fn need_neither(words: &ArgMatches, first: Argument, second: Argument) -> Result<(), FaultLine>
+    ensures { result ≡ neither first second (rows_of (found_of words.now)) }
+{
+    if is_used(words, first) || is_used(words, second) {
+        return Err(FaultLine::from(Refusal::BadWord));
+    }
+    Ok(())
+}
+
 /// Returns an audit of a trace that is read as a whole.
 fn read_whole_audit<'a>(
     script: &'a str,
@@ -210,9 +220,7 @@ fn read_whole_audit<'a>(
 ) -> Result<Request<'a>, FaultLine>
     ensures { result_map task_of result ≡ whole_audit_in script.now trace.now (rows_of (found_of words.now)) }
 {
-    if is_used(words, Argument::Jobs) || is_used(words, Argument::FirstRow) {
-        return Err(FaultLine::from(Refusal::BadWord));
-    }
+    need_neither(words, Argument::Jobs, Argument::FirstRow)?;
     let checkers = count(words, Argument::Checkers, u64::from(CHECKERS))?;
     Ok(ask(script, Question::Audit(Audit { trace, checkers })))
 }
@@ -225,9 +233,7 @@ fn read_long_audit<'a>(
 ) -> Result<Request<'a>, FaultLine>
     ensures { result_map task_of result ≡ long_audit_in script.now trace.now (rows_of (found_of words.now)) }
 {
-    if is_used(words, Argument::Checkers) || is_used(words, Argument::Names) {
-        return Err(FaultLine::from(Refusal::BadWord));
-    }
+    need_neither(words, Argument::Checkers, Argument::Names)?;
     let jobs = count(words, Argument::Jobs, u64::from(JOBS))?;
     let first = count(words, Argument::FirstRow, u64::MAX)?.unwrap_or(1);
     Ok(Request::LongAudit(LongAudit {

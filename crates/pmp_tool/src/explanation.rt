@@ -14,15 +14,14 @@ mod word;
 
 use crate::argument::Argument;
 use crate::failure::Failure;
-use crate::fault_line::{FaultLine, Place};
+use crate::fault_line::FaultLine;
 use crate::inputs::Inputs;
 use crate::kept::{Kept, KeptInput};
 use fields::{
     NAMES, PLAN, POLICY, TRACE, is_policy_address, is_range_address, is_trace_address, policy_place,
 };
 use names::write_names;
-use pmp_audit::Side;
-use pmp_text::{GrowingLog, Refusal, read_script_in, write_out};
+use pmp_text::{GrowingLog, Place, Refusal, Source, read_script_in, write_out};
 use shown::show_text;
 use spot::Spot;
 use std::alloc::{AllocError, Global};
@@ -92,8 +91,8 @@ fn write_explanation(
     kept: &Kept,
 ) -> Result<(), AllocError> {
     let in_input = write_spot(text, line, kept)?;
-    if let Some(script) = kept.inputs().get(usize::from(is_new(line.place))) {
-        match line.refusal {
+    if let Some(script) = kept.inputs().get(usize::from(is_new(line.fault.place))) {
+        match line.fault.refusal {
             Refusal::BadAfter => write_count(alloc, text, script)?,
             Refusal::NoMoment => write_names(alloc, text, script)?,
             _ => {}
@@ -125,7 +124,7 @@ fn write_asked_word(
     words: &[String],
     line: &FaultLine,
 ) -> Result<bool, AllocError> {
-    let Place::Word(argument) = line.place else {
+    let Some(argument) = line.argument else {
         return Ok(false);
     };
     if argument.name().is_empty() {
@@ -143,9 +142,10 @@ fn write_remedy(
     line: &FaultLine,
     has_bare_address: bool,
 ) -> Result<(), AllocError> {
-    let remedy = match line.place {
-        place if has_bare_address && is_address(place) => WITH_PREFIX,
-        _ => line.refusal.remedy(),
+    let remedy = if has_bare_address && is_address(line) {
+        WITH_PREFIX
+    } else {
+        line.fault.refusal.remedy()
     };
     Ok(writeln!(text, "to do: {remedy}")?)
 }
@@ -155,17 +155,26 @@ const WITH_PREFIX: &str =
     "put 0x before the address: pmp writes its 14 digits without it, and reads them with it";
 
 fn is_new(place: Place) -> bool {
-    matches!(place, Place::Script(Side::New))
+    matches!(
+        place,
+        Place::In {
+            source: Source::New,
+            number: 0,
+            ..
+        }
+    )
 }
 
 /// Whether a byte address is required at the fault.
-fn is_address(place: Place) -> bool {
-    match place {
-        Place::Word(argument) => matches!(argument, Argument::Start),
-        Place::TraceRow(fault) => is_trace_address(fault.field),
-        Place::PolicyRow(fault) => is_policy_address(fault.field),
-        Place::NamesRow(fault) => is_range_address(fault.field),
-        Place::PlanRow(fault) => is_range_address(fault.field),
+fn is_address(line: &FaultLine) -> bool {
+    match (line.argument, line.fault.place) {
+        (Some(argument), _) => matches!(argument, Argument::Start),
+        (None, Place::In { source, part, .. }) => match source {
+            Source::Trace => is_trace_address(part),
+            Source::Policy => is_policy_address(part),
+            Source::Names | Source::Plan => is_range_address(part),
+            Source::Script | Source::Old | Source::New | Source::Log => false,
+        },
         _ => false,
     }
 }
@@ -177,27 +186,28 @@ fn is_bare_address(word: &[u8]) -> bool {
 
 /// Writes what was wanted: for a malformed word or field, its form.
 fn write_wanted(text: &mut String, line: &FaultLine) -> Result<(), AllocError> {
-    if let (Refusal::BadWord, Place::Word(argument)) = (line.refusal, line.place) {
+    if let (Refusal::BadWord, Some(argument)) = (line.fault.refusal, line.argument) {
         let (name, form) = (argument.name(), argument.wanted());
         let colon = if name.is_empty() { "" } else { ": " };
         return Ok(writeln!(text, "wanted: {name}{colon}{form}")?);
     }
-    let wanted = wanted_field(line).unwrap_or(line.refusal.wanted());
+    let wanted = wanted_field(line).unwrap_or(line.fault.refusal.wanted());
     Ok(writeln!(text, "wanted: {wanted}")?)
 }
 
 /// Returns the form of the malformed field.
 fn wanted_field(line: &FaultLine) -> Option<&'static str> {
-    match (line.refusal, line.place) {
-        (Refusal::BadRow, Place::TraceRow(fault)) => TRACE.get(fault.field?).copied(),
-        (Refusal::BadRow, Place::PolicyRow(fault)) => POLICY.get(fault.field?).copied(),
-        (Refusal::BadRow, Place::NamesRow(fault)) => NAMES.get(fault.field?).copied(),
-        (Refusal::BadRow, Place::PlanRow(fault)) => PLAN.get(fault.field?).copied(),
-        (Refusal::BadHeader, Place::PlanRow(_)) => Some("first,last,m,su,locked,name"),
-        (Refusal::PastEnd, Place::PlanRow(_)) => Some(
-            "a last byte that the hart has an address for",
-        ),
-        (Refusal::TooLong, Place::PlanRow(_)) => Some("at most 1048576 bytes of a plan"),
+    let Place::In { source, part, .. } = line.fault.place else {
+        return None;
+    };
+    match (line.fault.refusal, source) {
+        (Refusal::BadRow, Source::Trace) => TRACE.get(part?).copied(),
+        (Refusal::BadRow, Source::Policy) => POLICY.get(part?).copied(),
+        (Refusal::BadRow, Source::Names) => NAMES.get(part?).copied(),
+        (Refusal::BadRow, Source::Plan) => PLAN.get(part?).copied(),
+        (Refusal::BadHeader, Source::Plan) => Some("first,last,m,su,locked,name"),
+        (Refusal::PastEnd, Source::Plan) => Some("a last byte that the hart has an address for"),
+        (Refusal::TooLong, Source::Plan) => Some("at most 1048576 bytes of a plan"),
         _ => None,
     }
 }
@@ -205,41 +215,53 @@ fn wanted_field(line: &FaultLine) -> Option<&'static str> {
 /// Returns the input that is at fault.
 fn input_of<'a>(line: &FaultLine, kept: &'a Kept) -> Option<&'a KeptInput> {
     let (first, last) = (kept.inputs().first(), kept.inputs().last());
-    match (line.place, line.refusal) {
-        (Place::ScriptLine(_), _) => kept.script(),
-        (Place::Script(Side::Old) | Place::LineOf(Side::Old, _), _) => first,
-        (Place::PlanRow(_) | Place::PlanRows(..) | Place::PlanEntries { .. }, _) => first,
-        (Place::Nowhere, Refusal::BadAfter | Refusal::NoMoment) => first,
-        (Place::NamesRow(_) | Place::LogLine(_), _) | (_, Refusal::BadFolder) => last,
-        (Place::Nowhere, Refusal::TooLong | Refusal::BadHeader | Refusal::Input) => last,
-        (Place::Nowhere, Refusal::NoHart) => last,
-        (Place::Nowhere, Refusal::NoRows) => kept.inputs().get(1),
-        (Place::Nowhere | Place::Word(_), _) => None,
-        _ => kept.inputs().get(1),
+    if line.fault.refusal == Refusal::BadFolder {
+        return last;
+    }
+    match line.fault.place {
+        Place::In { source, .. } => match source {
+            Source::Script => kept.script(),
+            Source::Old | Source::Plan => first,
+            Source::New | Source::Trace | Source::Policy => kept.inputs().get(1),
+            Source::Names | Source::Log => last,
+        },
+        Place::PlanRows(..) | Place::PlanEntries { .. } => first,
+        Place::Nowhere => match line.fault.refusal {
+            Refusal::TooLong | Refusal::Input | Refusal::NoHart => last,
+            Refusal::NoRows => kept.inputs().get(1),
+            _ => None,
+        },
+        Place::Events(_) => None,
     }
 }
 
 /// Returns the line at fault, if there is one.
 fn spot_of<'a>(line: &FaultLine, input: &'a KeptInput) -> Option<Spot<'a>> {
-    match line.place {
-        Place::ScriptLine(fault) | Place::LineOf(_, fault) => {
-            Some(Spot::of_line(&input.bytes, fault.line, fault.word))
-        }
-        Place::TraceRow(fault) => Spot::of_row(&input.bytes, fault.row, fault.field),
-        Place::NamesRow(fault) => Spot::of_row(&input.bytes, fault.row, fault.field),
-        Place::PolicyRow(fault) => {
-            let header = Spot::header(&input.bytes);
-            let place = fault.field.map(|index| policy_place(header, index));
-            Spot::of_row(&input.bytes, fault.row, place)
-        }
-        Place::PlanRow(fault) if fault.row > 0 => {
-            Spot::of_row(&input.bytes, fault.row, fault.field)
-        }
+    match line.fault.place {
+        Place::In {
+            source,
+            number,
+            part,
+        } if number > 0 => spot_in(source, &input.bytes, number, part),
         Place::PlanRows(_, row) | Place::PlanEntries { row, .. } => {
             Spot::of_row(&input.bytes, row, None)
         }
-        _ if line.refusal == Refusal::BadHeader => Spot::of_row(&input.bytes, 0, None),
+        _ if line.fault.refusal == Refusal::BadHeader => Spot::of_row(&input.bytes, 0, None),
         _ => None,
+    }
+}
+
+/// Returns the line of an input with this number, and its word or field with this index.
+fn spot_in(source: Source, text: &[u8], number: u64, part: Option<usize>) -> Option<Spot<'_>> {
+    match source {
+        Source::Script | Source::Old | Source::New => Some(Spot::of_line(text, number, part)),
+        Source::Policy => {
+            let header = Spot::header(text);
+            let place = part.map(|index| policy_place(header, index));
+            Spot::of_row(text, number, place)
+        }
+        Source::Trace | Source::Names | Source::Plan => Spot::of_row(text, number, part),
+        Source::Log => None,
     }
 }
 

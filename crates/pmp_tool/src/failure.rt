@@ -4,17 +4,15 @@ ghost use Rattle.std.specs.Prelude.{◌≡◌, ◌≤◌, IfSome, OnOk};
 ghost use Rattle.std.specs.Io.KnownBytes.{Appends};
 ghost use Rattle.pmp_text.specs.Inputs.{refusal_of_input};
 ghost use Rattle.pmp_text.specs.declared.refusal.Refusal.TheVariants.{Memory, Output};
-ghost use Rattle.pmp_tool.specs.Failures.{Tells, failure_status, failure_text, in_memory, of_hart, refused, unaudited, unimported, unnamed, unparsed, unplanned, unread};
+ghost use Rattle.pmp_tool.specs.Failures.{Tells, failed, failure_status, failure_text, in_memory, of_hart, refused};
+ghost use Rattle.pmp_tool.specs.Failures.{unparsed, unread};
 ghost use Rattle.pmp_tool.specs.declared.failure.Failure.TheVariants.{Refused};
 
-use crate::fault_line::{FaultLine, Place};
+use crate::fault_line::FaultLine;
 use arrayvec::ArrayString;
 use clap::error::ErrorKind;
-use pmp_audit::{ReportFault, Side};
-use pmp_import::ImportFault;
-use pmp_names::{HART_NAME, NamesFault};
-use pmp_plan::AnswerFault;
-use pmp_text::{InputFault, OutputFault, Refusal};
+use pmp_names::HART_NAME;
+use pmp_text::{Fault, InputFault, OutputFault, Refusal, Source};
 use std::alloc::AllocError;
 use std::io::Write;
 
@@ -39,7 +37,7 @@ impl Failure {
     {
         match self {
             Failure::Words(_) => UNKNOWN_WORDS,
-            Failure::Refused(line) | Failure::OfHart(_, line) => line.refusal.status(),
+            Failure::Refused(line) | Failure::OfHart(_, line) => line.fault.refusal.status(),
         }
     }
 
@@ -69,7 +67,7 @@ impl Failure {
         ensures { result ≡ in_memory self }
     {
         match self {
-            Failure::Refused(line) if line.refusal == Refusal::Output => Failure::from(
+            Failure::Refused(line) if line.fault.refusal == Refusal::Output => Failure::from(
                 Refusal::Memory,
             ),
             failure => failure,
@@ -86,18 +84,11 @@ impl Failure {
         }
     }
 
-    /// Returns the failure of an unreadable input: of two scripts, the one on this side.
-    pub fn unread(refusal: Refusal, side: Option<Side>) -> Failure
-        ensures { result ≡ unread refusal side }
+    /// Returns the failure of an input that is at fault as a whole.
+    pub fn unread(refusal: Refusal, source: Source) -> Failure
+        ensures { result ≡ unread refusal source }
     {
-        Failure::at(refusal, side.map_or(Place::Nowhere, Place::Script))
-    }
-
-    /// Returns a refusal at this place.
-    fn at(refusal: Refusal, place: Place) -> Failure
-        ensures { result ≡ Refused (record { refusal = refusal; place = place }) }
-    {
-        Failure::Refused(FaultLine { refusal, place })
+        Failure::from(refusal.whole().at_row(source, 0))
     }
 }
 
@@ -116,7 +107,7 @@ impl From<Refusal> for Failure {
     ghost from_gives = { λ refusal failure. failure ≡ refused refusal };
 
     fn from(refusal: Refusal) -> Failure {
-        Failure::Refused(FaultLine::from(refusal))
+        Failure::from(Fault::from(refusal))
     }
 }
 
@@ -152,38 +143,10 @@ impl From<OutputFault> for Failure {
     }
 }
 
-impl From<ImportFault> for Failure {
-    ghost from_gives = { λ fault failure. failure ≡ unimported fault };
+impl From<Fault> for Failure {
+    ghost from_gives = { λ fault failure. failure ≡ failed fault };
 
-    fn from(fault: ImportFault) -> Failure {
-        Failure::at(fault.kind, Place::of_log(fault))
-    }
-}
-
-impl From<AnswerFault> for Failure {
-    ghost from_gives = { λ fault failure. failure ≡ unplanned fault };
-
-    fn from(fault: AnswerFault) -> Failure {
-        match fault {
-            AnswerFault::Text(fault) => Failure::at(fault.kind, Place::PlanRow(fault)),
-            AnswerFault::Script(fault) => Failure::from(ReportFault::Script(fault)),
-            AnswerFault::Plan(fault) => Failure::at(fault.refusal(), Place::of_plan(fault)),
-        }
-    }
-}
-
-impl From<NamesFault> for Failure {
-    ghost from_gives = { λ fault failure. failure ≡ unnamed fault };
-
-    fn from(fault: NamesFault) -> Failure {
-        Failure::at(fault.refusal, Place::of_names(fault))
-    }
-}
-
-impl From<ReportFault> for Failure {
-    ghost from_gives = { λ fault failure. failure ≡ unaudited fault };
-
-    fn from(fault: ReportFault) -> Failure {
-        Failure::at(fault.refusal(), Place::of(fault))
+    fn from(fault: Fault) -> Failure {
+        Failure::Refused(FaultLine::from(fault))
     }
 }

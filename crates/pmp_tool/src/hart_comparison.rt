@@ -16,7 +16,7 @@ use crate::questions::{Asking, script_at};
 use crate::request::{Diff, Question};
 use pmp_audit::AskedChanges;
 use pmp_names::HartName;
-use pmp_text::{AddressNames, AnswerRow, Refusal};
+use pmp_text::{AddressNames, AnswerRow, Refusal, Source};
 use std::alloc::Global;
 
 /// A comparison of the harts of a folder, and the names that addresses have, if they are given.
@@ -39,7 +39,7 @@ pub fn compare_harts<I: Inputs>(
         asked.entry.folder.now asked.entry.has_locks) }
     ensures paths { I.paths inputs.new ≡ I.paths inputs.old }
 {
-    let Some(names) = harts_at(asked.alloc, inputs, asked.folder, None)? else {
+    let Some(names) = harts_at(asked.alloc, inputs, asked.folder, Source::Script)? else {
         script_at(inputs, asked.folder)?;
         return Err(Failure::from(Refusal::BadFolder));
     };

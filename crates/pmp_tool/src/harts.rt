@@ -10,11 +10,10 @@ ghost use Rattle.pmp_tool.specs.Harts.{AreFound, AreUnfound, new_script, reads_s
 
 use crate::failure::Failure;
 use crate::inputs::Inputs;
-use crate::questions::{Asking, old_side};
+use crate::questions::{Asking, script_source};
 use crate::request::Question;
-use pmp_audit::Side;
 use pmp_names::{HartName, are_same, read_harts};
-use pmp_text::Refusal;
+use pmp_text::{Refusal, Source};
 use std::alloc::Global;
 
 /// The harts that a question is asked of.
@@ -60,41 +59,41 @@ fn reads_stdin(path: &str, question: Question<'_>) -> bool
 fn listed<I: Inputs>(
     inputs: &mut I,
     path: &str,
-    side: Option<Side>,
+    source: Source,
 ) -> Result<Option<Vec<String>>, Failure>
     ensures listed { IfOk result (λ found. IsFolder ((I.paths inputs.old).folders path.now) (option_map
         (λ files. map string_bytes files.items) found)) }
-    ensures unlisted { IfErr result (IsUnlisted side) }
+    ensures unlisted { IfErr result (IsUnlisted source) }
     ensures paths { I.paths inputs.new ≡ I.paths inputs.old }
 {
     inputs
         .folder(path)
-        .map_err(|fault| Failure::unread(Refusal::from(fault), side))
+        .map_err(|fault| Failure::unread(Refusal::from(fault), source))
 }
 
 /// Returns the harts of a folder with these files.
-fn harts_of(alloc: Global, files: &[String], side: Option<Side>) -> Result<Vec<HartName>, Failure>
+fn harts_of(alloc: Global, files: &[String], source: Source) -> Result<Vec<HartName>, Failure>
     ensures ok { IfOk result (λ harts. AreHarts (map string_bytes files.now) (names_of harts.items)) }
-    ensures err { IfErr result (IsUnfit (map string_bytes files.now) side) }
+    ensures err { IfErr result (IsUnfit (map string_bytes files.now) source) }
 {
-    read_harts(alloc, files).map_err(|fault| Failure::unread(fault, side))
+    read_harts(alloc, files).map_err(|fault| Failure::unread(fault, source))
 }
 
-/// Returns the harts of the folder at a path, if there is one: of two scripts, at the path of the one on this side.
+/// Returns the harts of the folder at a path, if there is one; the path is that of this script.
 pub fn harts_at<I: Inputs>(
     alloc: Global,
     inputs: &mut I,
     path: &str,
-    side: Option<Side>,
+    source: Source,
 ) -> Result<Option<Vec<HartName>>, Failure>
     ensures found { IfOk result (λ harts. AreFoundAt ((I.paths inputs.old).folders path.now) (names_in harts)) }
-    ensures unfound { IfErr result (AreUnfoundAt ((I.paths inputs.old).folders path.now) side) }
+    ensures unfound { IfErr result (AreUnfoundAt ((I.paths inputs.old).folders path.now) source) }
     ensures paths { I.paths inputs.new ≡ I.paths inputs.old }
 {
-    let Some(files) = listed(inputs, path, side)? else {
+    let Some(files) = listed(inputs, path, source)? else {
         return Ok(None);
     };
-    Ok(Some(harts_of(alloc, &files, side)?))
+    Ok(Some(harts_of(alloc, &files, source)?))
 }
 
 /// Returns the harts of the folder at the path of the new script, if there is one.
@@ -109,7 +108,7 @@ fn new_harts<I: Inputs>(
     ensures paths { I.paths inputs.new ≡ I.paths inputs.old }
 {
     match new_script(question) {
-        Some(path) => harts_at(alloc, inputs, path, Some(Side::New)),
+        Some(path) => harts_at(alloc, inputs, path, Source::New),
         None => Ok(None),
     }
 }
@@ -164,7 +163,7 @@ impl Harts {
             question,
             ..
         } = asking;
-        let old = harts_at(alloc, inputs, path, old_side(question))?;
+        let old = harts_at(alloc, inputs, path, script_source(question))?;
         let new = new_harts(alloc, inputs, question)?;
         let Some(harts) = joined(old, new)? else {
             return Ok(None);

@@ -7,7 +7,7 @@ ghost use Rattle.pmp_tool.specs.Words.{result_map};
 
 use crate::argument::Argument;
 use crate::command::path;
-use crate::fault_line::{FaultLine, Place};
+use crate::fault_line::FaultLine;
 use crate::request::{Import, Request};
 use crate::word::{Smepmp, Xlen, asked, is_set, word};
 use clap::ArgMatches;
@@ -20,10 +20,7 @@ fn read_format(words: &ArgMatches) -> Result<Format, FaultLine>
     let word = path(words, Argument::Format)?;
     match Format::named(word.as_bytes()) {
         Some(format) => Ok(format),
-        None => Err(FaultLine {
-            refusal: Refusal::BadFormat,
-            place: Place::Word(Argument::Format),
-        }),
+        None => Err(FaultLine::about(Argument::Format, Refusal::BadFormat)),
     }
 }
 

@@ -35,6 +35,7 @@ mod texts;
 mod topics;
 mod trace_input;
 mod word;
+mod work;
 
 use explanation::{asks_to_explain, explain_unread};
 use fault_line::FaultLine;

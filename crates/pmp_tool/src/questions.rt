@@ -7,7 +7,7 @@ ghost use Rattle.pmp_audit.specs.Answers.{AreAdded};
 ghost use Rattle.pmp_tool.specs.Inputs.{AreBytesOf, CantBeRead};
 ghost use Rattle.pmp_tool.specs.NumberedInputs.{paths_for};
 ghost use Rattle.pmp_tool.specs.Questions.{PathFails, PathSays, RowsFail, RowsSay, has_names, listed_at, name_allowed};
-ghost use Rattle.pmp_tool.specs.Questions.{old_side, unscripted};
+ghost use Rattle.pmp_tool.specs.Questions.{script_source, unscripted};
 ghost use Rattle.pmp_tool.specs.declared.request.Question.TheVariants as question;
 
 use crate::argument::Argument;
@@ -18,10 +18,12 @@ use crate::numbered_inputs::read_trace;
 use crate::outcome::Outcome;
 use crate::request::{Audit, Diff, Policy, Question};
 use pmp_audit::{
-    Moment, Side, add_audit, add_check, add_diff, add_findings, add_listing, add_policy,
-    add_reasons, add_writes,
+    Moment, add_audit, add_check, add_diff, add_findings, add_listing, add_policy, add_reasons,
+    add_writes,
 };
-use pmp_text::{AddressNames, GrowingLog, MAX_HEADED_SCRIPT, Refusal, RowSink, When, is_headed};
+use pmp_text::{
+    AddressNames, GrowingLog, MAX_HEADED_SCRIPT, Refusal, RowSink, Source, When, is_headed,
+};
 use std::alloc::Global;
 
 /// A question about the script at a path, and the names that addresses have, if they are given.
@@ -50,13 +52,13 @@ pub fn allow_name(script: &[u8], argument: Argument, after: Option<When>) -> Res
     }
 }
 
-/// Returns the side of the question's script, if there are two.
-pub fn old_side(question: Question<'_>) -> Option<Side>
-    ensures { result ≡ old_side question.entry }
+/// Returns which script the question's is, if there are two.
+pub fn script_source(question: Question<'_>) -> Source
+    ensures { result ≡ script_source question.entry }
 {
     match question {
-        Question::Diff(_) => Some(Side::Old),
-        _ => None,
+        Question::Diff(_) => Source::Old,
+        _ => Source::Script,
     }
 }
 
@@ -106,7 +108,7 @@ pub fn add_answer<I: Inputs, R: RowSink>(
         Ok(script) => add_rows(asking, &script, inputs, rows),
         Err(refusal) => Err(unscripted(
             listed_at(asking.question),
-            Failure::unread(refusal, old_side(asking.question)),
+            Failure::unread(refusal, script_source(asking.question)),
         )),
     }
 }
@@ -218,7 +220,7 @@ fn add_diff_rows<I: Inputs, R: RowSink>(
     allow_name(script, Argument::OldAfter, asked.old_after)?;
     let new = match script_at(inputs, asked.new) {
         Ok(new) => new,
-        Err(refusal) => return Err(Failure::unread(refusal, Some(Side::New))),
+        Err(refusal) => return Err(Failure::unread(refusal, Source::New)),
     };
     allow_name(&new, Argument::NewAfter, asked.new_after)?;
     let old = Moment {

@@ -32,8 +32,9 @@ use crate::outcome::Outcome;
 use crate::questions::Asking;
 use crate::request::{Audit, Printed, Question, Request};
 use crate::row_format::AskedFormat;
-use crate::streams::{Work, write_import, write_long_report, write_report};
-use crate::texts::{Setting, text_of};
+use crate::streams::{write_import, write_long_report, write_report};
+use crate::texts::text_of;
+use crate::work::{Setting, Work};
 use clap::ArgMatches;
 use pmp_names::read_names;
 use pmp_text::{AddressName, AddressNames, write_out};
@@ -130,21 +131,28 @@ fn answer_words<R: Threads + Wait + Sync, I: Inputs, O: Write>(
     let form = asked_format(matches)?;
     let Some(path) = names_path(matches)? else {
         let request = read_request(matches, &[])?;
-        return answer_request(work_with(rt, alloc, None), form, request, inputs, out);
+        return answer_request(work_with(rt, alloc, None, form), request, inputs, out);
     };
     let text = inputs.trace(path)?;
     let names = read_names(alloc, &text)?;
     inputs.forget();
     let request = read_request(matches, &names)?;
-    let work = work_with(rt, alloc, names_of(alloc, &names));
-    answer_request(work, form, request, inputs, out)
+    let work = work_with(rt, alloc, names_of(alloc, &names), form);
+    answer_request(work, request, inputs, out)
 }
 
 /// Returns what a request is answered with.
-fn work_with<'a, R>(rt: &'a R, alloc: Global, names: Option<AddressNames<'a>>) -> Work<'a, R>
-    ensures names { given_names result.names ≡ given_names names.entry }
+fn work_with<'r, 'a, R>(
+    rt: &'r R,
+    alloc: Global,
+    names: Option<AddressNames<'a>>,
+    form: Option<AskedFormat<'a>>,
+) -> Work<'r, 'a, R>
+    ensures names { given_names result.setting.names ≡ given_names names.entry }
+    ensures form { result.setting.form ≡ form.entry }
 {
-    Work { rt, alloc, names }
+    let setting = Setting { alloc, names, form };
+    Work { rt, setting }
 }
 
 /// Returns names as those that are given.
@@ -156,70 +164,62 @@ fn names_of<'a>(alloc: Global, all: &'a [AddressName<'a>]) -> Option<AddressName
 
 /// Does what a request asks for.
 fn answer_request<R: Threads + Wait + Sync, I: Inputs, O: Write>(
-    work: Work<'_, R>,
-    form: Option<AskedFormat<'_>>,
+    work: Work<'_, '_, R>,
     request: Request<'_>,
     inputs: &mut I,
     out: &mut O,
 ) -> Result<Outcome, Failure>
-    ensures ok { IfOk result (IsDone (I.paths inputs.old) (given_names work.entry.names) form.entry
+    ensures ok { IfOk result (IsDone (I.paths inputs.old) (given_names work.entry.setting.names) work.entry.setting.form
         (O.contents out.old) (O.contents out.new) request.entry (I.paths inputs.new)) }
-    ensures err { IfErr result (IsUndone (I.paths inputs.old) (given_names work.entry.names) form.entry
+    ensures err { IfErr result (IsUndone (I.paths inputs.old) (given_names work.entry.setting.names) work.entry.setting.form
         (O.contents out.old) (O.contents out.new) request.entry) }
     ensures unchanged { OnErr result (I.paths inputs.new ≡ I.paths inputs.old) }
 {
     match request {
-        Request::Print(printed) => answer_printed(work, form, printed, inputs, out),
+        Request::Print(printed) => answer_printed(work, printed, inputs, out),
         Request::LongAudit(audit) => write_long_report(work, audit, inputs, out),
         Request::Import(asked) => match asked.folder {
-            Some(folder) => import_harts(work.alloc, asked, folder, inputs),
-            None => Ok(Outcome::Imported(write_import(work.alloc, asked, inputs, out)?)),
+            Some(folder) => import_harts(work.setting.alloc, asked, folder, inputs),
+            None => Ok(Outcome::Imported(write_import(work.setting.alloc, asked, inputs, out)?)),
         },
     }
 }
 
 /// Prints the answer to a request: an audit by one script as it is made, any other one as a whole.
 fn answer_printed<R: Threads + Wait + Sync, I: Inputs, O: Write>(
-    work: Work<'_, R>,
-    form: Option<AskedFormat<'_>>,
+    work: Work<'_, '_, R>,
     printed: Printed<'_>,
     inputs: &mut I,
     out: &mut O,
 ) -> Result<Outcome, Failure>
-    ensures ok { IfOk result (IsDone (I.paths inputs.old) (given_names work.entry.names) form.entry
+    ensures ok { IfOk result (IsDone (I.paths inputs.old) (given_names work.entry.setting.names) work.entry.setting.form
         (O.contents out.old) (O.contents out.new) (request.Print printed.entry) (I.paths inputs.new)) }
-    ensures err { IfErr result (IsUndone (I.paths inputs.old) (given_names work.entry.names) form.entry
+    ensures err { IfErr result (IsUndone (I.paths inputs.old) (given_names work.entry.setting.names) work.entry.setting.form
         (O.contents out.old) (O.contents out.new) (request.Print printed.entry)) }
     ensures paths { I.paths inputs.new ≡ I.paths inputs.old }
 {
     match printed {
         Printed::Ask(path, Question::Audit(audit)) => {
-            answer_audit(work, form, path, audit, inputs, out)
+            answer_audit(work, path, audit, inputs, out)
         }
-        _ => print(work, form, printed, inputs, out),
+        _ => print(work.setting, printed, inputs, out),
     }
 }
 
 /// Prints the answer to a request as a whole.
-fn print<R: Threads + Wait + Sync, I: Inputs, O: Write>(
-    work: Work<'_, R>,
-    form: Option<AskedFormat<'_>>,
+fn print<I: Inputs, O: Write>(
+    setting: Setting<'_>,
     printed: Printed<'_>,
     inputs: &mut I,
     out: &mut O,
 ) -> Result<Outcome, Failure>
     ensures ok { IfOk result (λ outcome. (text : List ℕ) × TextSays
-        (paths_for (given_names work.entry.names) (I.paths inputs.old)) (given_names work.entry.names) form.entry
+        (paths_for (given_names setting.entry.names) (I.paths inputs.old)) (given_names setting.entry.names) setting.entry.form
         printed.entry outcome text × Appends (O.contents out.old) (O.contents out.new) text) }
-    ensures err { IfErr result (IsUndone (I.paths inputs.old) (given_names work.entry.names) form.entry
+    ensures err { IfErr result (IsUndone (I.paths inputs.old) (given_names setting.entry.names) setting.entry.form
         (O.contents out.old) (O.contents out.new) (request.Print printed.entry)) }
     ensures paths { I.paths inputs.new ≡ I.paths inputs.old }
 {
-    let setting = Setting {
-        alloc: work.alloc,
-        names: work.names,
-        form,
-    };
     let (outcome, text) = text_of(setting, printed, inputs)?;
     write_out(out, &text)?;
     Ok(outcome)
@@ -227,23 +227,22 @@ fn print<R: Threads + Wait + Sync, I: Inputs, O: Write>(
 
 /// Audits a trace by one script, or prints the decisions of each hart of a folder.
 fn answer_audit<R: Threads + Wait + Sync, I: Inputs, O: Write>(
-    work: Work<'_, R>,
-    form: Option<AskedFormat<'_>>,
+    work: Work<'_, '_, R>,
     path: &str,
     audit: Audit<'_>,
     inputs: &mut I,
     out: &mut O,
 ) -> Result<Outcome, Failure>
-    ensures ok { IfOk result (IsDone (I.paths inputs.old) (given_names work.entry.names) form.entry
+    ensures ok { IfOk result (IsDone (I.paths inputs.old) (given_names work.entry.setting.names) work.entry.setting.form
         (O.contents out.old) (O.contents out.new)
         (request.Print (printed.Ask path.entry (question.Audit audit.entry))) (I.paths inputs.new)) }
-    ensures err { IfErr result (IsUndone (I.paths inputs.old) (given_names work.entry.names) form.entry
+    ensures err { IfErr result (IsUndone (I.paths inputs.old) (given_names work.entry.setting.names) work.entry.setting.form
         (O.contents out.old) (O.contents out.new) (request.Print (printed.Ask path.entry (question.Audit audit.entry)))) }
     ensures paths { I.paths inputs.new ≡ I.paths inputs.old }
 {
     let asking = Asking {
-        alloc: work.alloc,
-        names: work.names,
+        alloc: work.setting.alloc,
+        names: work.setting.names,
         path,
         question: Question::Audit(audit),
     };
@@ -251,8 +250,7 @@ fn answer_audit<R: Threads + Wait + Sync, I: Inputs, O: Write>(
         return write_report(work, path, audit, inputs, out);
     };
     print(
-        work,
-        form,
+        work.setting,
         Printed::Ask(path, Question::Audit(audit)),
         inputs,
         out,

@@ -15,67 +15,65 @@ use crate::numbered_inputs::{open_trace, read_trace};
 use crate::outcome::Outcome;
 use crate::questions::script_at;
 use crate::request::{Audit, Import, LongAudit};
+use crate::work::Work;
 use pmp_audit::{OpenGate, PIECE, audit_by_workers, audit_long, audit_whole};
 use pmp_import::{Given, import, survey_log};
-use pmp_text::AddressNames;
 use std::alloc::Global;
 use std::io::Write;
 use std::sync::Wait;
 use std::thread::Threads;
 
-/// Where threads and memory come from, and the names that addresses have, if they are given.
-#[derive(Clone, Copy)]
-pub struct Work<'a, R> {
-    pub rt: &'a R,
-    pub alloc: Global,
-    pub names: Option<AddressNames<'a>>,
-}
-
 /// Audits a trace that is read as a whole.
 pub fn write_report<R: Threads + Wait + Sync, I: Inputs, O: Write>(
-    work: Work<'_, R>,
+    work: Work<'_, '_, R>,
     path: &str,
     audit: Audit<'_>,
     inputs: &mut I,
     out: &mut O,
 ) -> Result<Outcome, Failure>
-    ensures ok { IfOk result (IsWritten (ReportSays (paths_for (given_names work.entry.names) (I.paths inputs.old))
+    ensures ok { IfOk result (IsWritten (ReportSays (paths_for (given_names work.entry.setting.names) (I.paths inputs.old))
         path.now audit.entry) (O.contents out.old) (O.contents out.new)) }
-    ensures err { IfErr result (ReportFails (paths_for (given_names work.entry.names) (I.paths inputs.old))
+    ensures err { IfErr result (ReportFails (paths_for (given_names work.entry.setting.names) (I.paths inputs.old))
         (O.contents out.old) (O.contents out.new) path.now audit.entry) }
     ensures paths { I.paths inputs.new ≡ I.paths inputs.old }
 {
     let script = script_at(inputs, path)?;
-    let trace = read_trace(work.alloc, work.names, inputs, audit.trace)?;
+    let trace = read_trace(work.setting.alloc, work.setting.names, inputs, audit.trace)?;
     let summary = match audit.checkers {
         Some(k) => audit_by_workers(
-            work.rt, work.alloc, &OpenGate, k as u8, &script, &trace, out,
+            work.rt,
+            work.setting.alloc,
+            &OpenGate,
+            k as u8,
+            &script,
+            &trace,
+            out,
         )?,
-        None => audit_whole(work.alloc, &script, &trace, out)?,
+        None => audit_whole(work.setting.alloc, &script, &trace, out)?,
     };
     Ok(Outcome::Audited(summary))
 }
 
 /// Audits a trace of any length.
 pub fn write_long_report<R: Threads + Wait + Sync, I: Inputs, O: Write>(
-    work: Work<'_, R>,
+    work: Work<'_, '_, R>,
     audit: LongAudit<'_>,
     inputs: &mut I,
     out: &mut O,
 ) -> Result<Outcome, Failure>
     ensures ok { IfOk result (IsWritten
-        (LongReportSays (paths_for (given_names work.entry.names) (I.paths inputs.old)) audit.entry)
+        (LongReportSays (paths_for (given_names work.entry.setting.names) (I.paths inputs.old)) audit.entry)
         (O.contents out.old) (O.contents out.new)) }
-    ensures err { IfErr result (LongReportFails (paths_for (given_names work.entry.names) (I.paths inputs.old))
+    ensures err { IfErr result (LongReportFails (paths_for (given_names work.entry.setting.names) (I.paths inputs.old))
         (O.contents out.old) (O.contents out.new) audit.entry) }
     ensures paths { I.paths inputs.new ≡ I.paths inputs.old }
 {
     let script = script_at(inputs, audit.script)?;
-    let mut rows = open_trace(work.names, inputs, audit.trace)?;
+    let mut rows = open_trace(work.setting.names, inputs, audit.trace)?;
     let jobs = audit.jobs.unwrap_or_else(|| processors(work.rt)) as usize;
     let summary = audit_long(
         work.rt,
-        work.alloc,
+        work.setting.alloc,
         jobs,
         &script,
         audit.first,

@@ -12,7 +12,7 @@ ghost use Rattle.pmp_audit.specs.PolicyDraft.{DraftSays};
 ghost use Rattle.pmp_plan.specs.PlansOf.{IsPlanOfScript};
 ghost use Rattle.pmp_tool.specs.Questions.{PathFails, PathSays, names_for};
 ghost use Rattle.pmp_tool.specs.RowFormats.{formed};
-ghost use Rattle.pmp_tool.specs.Texts.{DraftFails, IsStart, NoStart, PlanOfFails, PlanTextFails};
+ghost use Rattle.pmp_tool.specs.Texts.{IsStart, NoStart, PlanTextFails, ScriptFails};
 ghost use Rattle.pmp_tool.specs.Texts.{PlanTextSays, ScriptSays, TextFails, TextSays};
 ghost use Rattle.pmp_tool.specs.declared.outcome.Outcome.TheVariants.{Listed};
 ghost use Rattle.pmp_tool.specs.declared.request.Printed.TheVariants as printed;
@@ -27,20 +27,12 @@ use crate::outcome::Outcome;
 use crate::questions::{Asking, add_answer, allow_name, script_at, unscripted};
 use crate::request::{Plan, Printed, Question, Show};
 use crate::row_format::{AskedFormat, formed, is_csv};
+use crate::work::Setting;
 use pmp_audit::{AskedView, append_policy_from, append_view};
 use pmp_core::{Hart, RegFile};
 use pmp_plan::{implemented_plan, plan_text, registers_after};
-use pmp_text::{AddressNames, GrowingLog, Refusal};
+use pmp_text::{GrowingLog, Refusal};
 use std::alloc::Global;
-
-/// How requests are answered: the names that addresses have, if they are given, and the form of rows, if that is not
-/// CSV.
-#[derive(Clone, Copy)]
-pub struct Setting<'a> {
-    pub alloc: Global,
-    pub names: Option<AddressNames<'a>>,
-    pub form: Option<AskedFormat<'a>>,
-}
 
 /// Answers a question about one script, in this form. As CSV without names its rows are text as soon as they are made,
 /// since there may be millions.
@@ -184,7 +176,7 @@ fn writes_text<I: Inputs>(alloc: Global, plan: Plan<'_>, inputs: &mut I) -> Resu
 /// Returns the plan that a script's registers implement.
 fn plan_of_text<I: Inputs>(alloc: Global, path: &str, inputs: &mut I) -> Result<Vec<u8>, Failure>
     ensures ok { IfOk result (λ text. ScriptSays (I.paths inputs.old).scripts path.now IsPlanOfScript text.items) }
-    ensures err { IfErr result (PlanOfFails (I.paths inputs.old).scripts path.now) }
+    ensures err { IfErr result (ScriptFails (I.paths inputs.old).scripts path.now) }
     ensures paths { I.paths inputs.new ≡ I.paths inputs.old }
 {
     let script = script_at(inputs, path)?;
@@ -194,7 +186,7 @@ fn plan_of_text<I: Inputs>(alloc: Global, path: &str, inputs: &mut I) -> Result<
 /// Returns the policy of what is closed after a script's last publication.
 fn draft_text<I: Inputs>(alloc: Global, path: &str, inputs: &mut I) -> Result<Vec<u8>, Failure>
     ensures ok { IfOk result (λ text. ScriptSays (I.paths inputs.old).scripts path.now (λ script. DraftSays script tt) text.items) }
-    ensures err { IfErr result (DraftFails (I.paths inputs.old).scripts path.now) }
+    ensures err { IfErr result (ScriptFails (I.paths inputs.old).scripts path.now) }
     ensures paths { I.paths inputs.new ≡ I.paths inputs.old }
 {
     let script = script_at(inputs, path)?;

@@ -14,7 +14,7 @@ ghost use Rattle.pmp_tool.specs.Words.{word_in};
 
 use crate::argument::Argument;
 use crate::expected::Expected;
-use crate::fault_line::{FaultLine, Place};
+use crate::fault_line::FaultLine;
 use crate::row_format::RowFormat;
 use clap::ArgMatches;
 use pmp_core::{Kind, Mode};
@@ -25,10 +25,7 @@ impl FaultLine {
     pub fn of_word(argument: Argument) -> FaultLine
         ensures { result ≡ bad_word argument }
     {
-        FaultLine {
-            refusal: Refusal::BadWord,
-            place: Place::Word(argument),
-        }
+        FaultLine::about(argument, Refusal::BadWord)
     }
 }
 

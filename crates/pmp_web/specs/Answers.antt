@@ -11,10 +11,12 @@ use Rattle.pmp_text.specs.Scripts.{script_meaning}
 use Rattle.pmp_text.specs.Refusals.{number_of}
 use Rattle.pmp_text.specs.declared.refusal.Refusal.{Refusal}
 use Rattle.pmp_text.specs.declared.refusal.Refusal.TheVariants.{BadWord}
-use Rattle.pmp_audit.specs.Fault.{refusal_of}
-use Rattle.pmp_audit.specs.declared.fault.ReportFault.{ReportFault}
-use Rattle.pmp_audit.specs.declared.fault.ReportFault.TheVariants.{BadAfterOf, NoMomentOf, Script, ScriptOf}
-use Rattle.pmp_audit.specs.declared.fault.Side.TheVariants.{New}
+use Rattle.pmp_text.specs.declared.fault.Fault.{Fault}
+use Rattle.pmp_text.specs.declared.fault.Place.{Place}
+use Rattle.pmp_text.specs.declared.fault.Place.TheVariants.{In}
+use Rattle.pmp_text.specs.declared.fault.Source.{Source}
+use Rattle.pmp_text.specs.declared.fault.Source.TheVariants.{New, Policy, Trace}
+use Rattle.pmp_text.specs.FaultPlaces.{number_in}
 use Rattle.pmp_audit.specs.declared.write_list.WriteSummary.{WriteSummary}
 use Rattle.pmp_audit.specs.Answers.{Declines, InCsv}
 use Rattle.pmp_audit.specs.AskedFile.{FileRefuses}
@@ -23,7 +25,6 @@ use Rattle.pmp_audit.specs.WriteList.{WritesSay}
 use Rattle.pmp_audit.specs.PolicyCheck.{VerdictRefuses, VerdictSays}
 use Rattle.pmp_audit.specs.Reasons.{FindingsSay, ReasonsSay}
 use Rattle.pmp_audit.specs.ScriptDiff.{DiffSays}
-use Rattle.pmp_import.specs.declared.fault.ImportFault.{ImportFault}
 use Rattle.pmp_import.specs.declared.format.Format.{Format}
 use Rattle.pmp_import.specs.declared.options.Options.{Options}
 use Rattle.pmp_import.specs.LogTexts.{GivesNone, script_by}
@@ -38,28 +39,31 @@ use Rattle.pmp_web.specs.Request.{NamesNone}
 use Rattle.pmp_web.specs.Rooms.{text_in}
 
 -- which of two scripts is at fault
-abbrev pub side_number : ReportFault → ℕ
-side_number (ScriptOf New fault) = 256
-side_number (BadAfterOf New) = 256
-side_number (NoMomentOf New) = 256
+abbrev pub side_number : Place → ℕ
+side_number (In New number part) = 256
 side_number _ = 0
 
--- the number of a refusal, plus 256 if it is the new script's
-abbrev pub told_number : ReportFault → ℕ
-told_number fault = side_number fault + number_of (refusal_of fault)
+-- the line of a script or a log, or the row of a plan, of two the first
+abbrev pub line_in : Source → (number : ℕ) → ℕ
+line_in Trace number = 0
+line_in Policy number = 0
+line_in _ number = number
 
-abbrev pub line_of : ReportFault → ℕ
-line_of (Script fault) = fault.line
-line_of (ScriptOf side fault) = fault.line
-line_of _ = 0
+abbrev pub line_of : Place → ℕ
+line_of (In source number part) = line_in source number
+line_of place = number_in place
 
--- the call refuses, with the number of the refusal and its line, and the room is empty
-pub record IsRefusal (Refuses : ReportFault → Type 0) (status : ℕ) (answer : Answer) : Type 0 where
-  pub fault : ReportFault
-  pub why : Declines Refuses fault
-  pub number : status ≡ told_number fault
-  pub line : answer.line ≡ line_of fault
+-- the call refuses, with the number of the refusal, this one more, and its line, and the room is empty
+pub record IsRefused (added : ℕ) (fault : Fault) (status : ℕ) (answer : Answer) : Type 0 where
+  pub number : status ≡ added + number_of fault.refusal
+  pub line : answer.line ≡ line_of fault.place
   pub empty : text_in answer ≡ []
+
+-- 256 more, if it is the new script's
+pub record IsRefusal (Refuses : Fault → Type 0) (status : ℕ) (answer : Answer) : Type 0 where
+  pub fault : Fault
+  pub why : Declines Refuses fault
+  pub told : IsRefused (side_number fault.place) fault status answer
 
 -- the numbers name no question; no line is at fault, and the room is empty
 pub record IsUnasked (refusal : Refusal) (status : ℕ) (answer : Answer) : Type 0 where
@@ -68,7 +72,7 @@ pub record IsUnasked (refusal : Refusal) (status : ℕ) (answer : Answer) : Type
   pub empty : text_in answer ≡ []
 
 -- the room holds a text that satisfies Says, and no line is at fault, or the call refuses
-abbrev pub Answers : (Says : List ℕ → Type 0) → (Refuses : ReportFault → Type 0) → (status : ℕ) → Answer → Type 0
+abbrev pub Answers : (Says : List ℕ → Type 0) → (Refuses : Fault → Type 0) → (status : ℕ) → Answer → Type 0
 Answers Says Refuses status answer =
     ((status ≡ 0) × (answer.line ≡ 0) × Says (text_in answer)) ⊎ IsRefusal Refuses status answer
 
@@ -152,11 +156,9 @@ guessed = record {
 
 -- the log gives no script; status and line are the refusal's, and the room is empty
 pub record IsNoLog (format : Format) (log : List ℕ) (status : ℕ) (answer : Answer) : Type 0 where
-  pub fault : ImportFault
+  pub fault : Fault
   pub why : GivesNone format guessed (lines log) fault
-  pub number : status ≡ number_of fault.kind
-  pub line : answer.line ≡ fault.line
-  pub empty : text_in answer ≡ []
+  pub told : IsRefused 0 fault status answer
 
 -- the room holds the script of a log of the format that the number names, or it names none
 abbrev pub AnswersImport : (log : List ℕ) → Option Format → (status : ℕ) → Answer → Type 0

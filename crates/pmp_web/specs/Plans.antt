@@ -1,28 +1,20 @@
 -- What is returned of a plan beside a script.
 use Rattle.std.specs.Prelude.{◌≡◌, ◌⊎◌, ℕ, ◌+◌, ◌/◌, ◌%◌, ◌==◌, nat_lt, List, [], Err, Option, Some, None, if◌then◌else◌}
 use Rattle.pmp_core.specs.RegisterFile.{RegisterFile, reset_file}
-use Rattle.pmp_text.specs.Outcomes.{no_memory_for_rows}
-use Rattle.pmp_text.specs.Refusals.{number_of}
+use Rattle.pmp_text.specs.Outcomes.{no_memory}
 use Rattle.pmp_text.specs.declared.moments.When.TheVariants.{Number}
-use Rattle.pmp_text.specs.declared.refusal.Refusal.{Refusal}
 use Rattle.pmp_text.specs.declared.refusal.Refusal.TheVariants.{BadWord}
-use Rattle.pmp_text.specs.declared.trace.RowFault.{RowFault}
+use Rattle.pmp_text.specs.declared.fault.Fault.{Fault}
 use Rattle.pmp_audit.specs.AskedFile.{FileRefuses}
 use Rattle.pmp_audit.specs.ScriptDiff.{GivesFile}
-use Rattle.pmp_names.specs.AddressNames.{next_row}
 use Rattle.pmp_plan.specs.PlanAnswers.{Tells}
-use Rattle.pmp_plan.specs.PlanFaults.{refusal_of}
 use Rattle.pmp_plan.specs.PlanRooms.{HasNoScript}
 use Rattle.pmp_plan.specs.PlanTexts.{plan_said}
 use Rattle.pmp_plan.specs.Routes.{plain}
 use Rattle.pmp_plan.specs.Verdicts.{VerdictsSay}
-use Rattle.pmp_plan.specs.declared.answer.AnswerFault.{AnswerFault}
-use Rattle.pmp_plan.specs.declared.answer.AnswerFault.TheVariants as answer
 use Rattle.pmp_plan.specs.declared.answer.Form.TheVariants as form
-use Rattle.pmp_plan.specs.declared.fault.PlanFault.{PlanFault}
-use Rattle.pmp_plan.specs.declared.fault.PlanFault.TheVariants as fault
 use Rattle.pmp_plan.specs.declared.security.Security.{Security}
-use Rattle.pmp_web.specs.Answers.{IsRefusal, IsUnasked}
+use Rattle.pmp_web.specs.Answers.{IsRefusal, IsRefused, IsUnasked}
 use Rattle.pmp_web.specs.Rooms.{text_in}
 use Rattle.pmp_web.specs.declared.rooms.Answer.{Answer}
 
@@ -34,44 +26,19 @@ security_of value = if nat_lt 7 value then None else Some (record {
   rlb = value / 4 % 2 == 1;
 })
 
-abbrev pub refusal_in_plan : AnswerFault → Refusal
-refusal_in_plan (answer.Text fault) = fault.kind
-refusal_in_plan (answer.Script fault) = fault.kind
-refusal_in_plan (answer.Plan fault) = refusal_of fault
-
--- the number of the refusal, plus 256
-abbrev pub plan_number : AnswerFault → ℕ
-plan_number fault = 256 + number_of (refusal_in_plan fault)
-
--- the row, or the first of two, from 1, or 0
-abbrev pub row_in_plan : PlanFault → ℕ
-row_in_plan (fault.Overlap row other) = next_row row
-row_in_plan (fault.TooFine row field) = next_row row
-row_in_plan (fault.PastEnd row) = next_row row
-row_in_plan (fault.BadPair row) = next_row row
-row_in_plan (fault.FewEntries found row takes) = if takes == 0 then 0 else next_row row
-row_in_plan _ = 0
-
-abbrev pub plan_row : AnswerFault → ℕ
-plan_row (answer.Text fault) = fault.row
-plan_row (answer.Plan fault) = row_in_plan fault
-plan_row _ = 0
-
 -- the plan is refused, with 256 added to the number, and the row in the place of the line; the room is empty
-pub record IsPlanRefusal (Refuses : AnswerFault → Type 0) (status : ℕ) (room : Answer) : Type 0 where
-  pub fault : AnswerFault
+pub record IsPlanRefusal (Refuses : Fault → Type 0) (status : ℕ) (room : Answer) : Type 0 where
+  pub fault : Fault
   pub why : Refuses fault
-  pub number : status ≡ plan_number fault
-  pub line : room.line ≡ plan_row fault
-  pub empty : text_in room ≡ []
+  pub told : IsRefused 256 fault status room
 
 -- the room holds a text that satisfies Says, or the plan is refused
-abbrev pub TellsOfPlan : (Says : List ℕ → Type 0) → (Refuses : AnswerFault → Type 0) → (status : ℕ) → Answer → Type 0
+abbrev pub TellsOfPlan : (Says : List ℕ → Type 0) → (Refuses : Fault → Type 0) → (status : ℕ) → Answer → Type 0
 TellsOfPlan Says Refuses status room =
     ((status ≡ 0) × (room.line ≡ 0) × Says (text_in room)) ⊎ IsPlanRefusal Refuses status room
 
 -- the script gives a file after so many publications, of which the plan is told; or the script is refused
-abbrev pub AnswersOfPlan : (Says : RegisterFile → List ℕ → Type 0) → (Refuses : RegisterFile → AnswerFault → Type 0)
+abbrev pub AnswersOfPlan : (Says : RegisterFile → List ℕ → Type 0) → (Refuses : RegisterFile → Fault → Type 0)
     → (script : List ℕ) → (after status : ℕ) → Answer → Type 0
 AnswersOfPlan Says Refuses script after status room =
     ((file : RegisterFile) × GivesFile script (Some (Number after)) file × TellsOfPlan (Says file) (Refuses file) status room)
@@ -82,9 +49,8 @@ abbrev pub PlanScriptSays : RegisterFile → Security → (plan text : List ℕ)
 PlanScriptSays file security plan text = Tells (reset_file file.profile) (plain security) form.Script plan text
 
 -- the plan's text is at fault, or its rows have no room
-abbrev pub HasNoVerdicts : (plan : List ℕ) → AnswerFault → Type 0
-HasNoVerdicts plan why =
-    (fault : RowFault) × (why ≡ answer.Text fault) × ((fault ≡ no_memory_for_rows) ⊎ (plan_said plan ≡ Err fault))
+abbrev pub HasNoVerdicts : (plan : List ℕ) → Fault → Type 0
+HasNoVerdicts plan fault = (fault ≡ no_memory) ⊎ (plan_said plan ≡ Err fault)
 
 -- the rows of the plan are judged in the file after so many publications
 abbrev pub AnswersMeets : (script plan : List ℕ) → (after status : ℕ) → Answer → Type 0

@@ -1,19 +1,18 @@
 //! How an answer is written to its room, and its status returned.
 
-ghost use Rattle.std.specs.Prelude.{◌≡◌, ◌++◌, [], IfErr, IfOk, OnOk, map};
+ghost use Rattle.std.specs.Prelude.{◌≡◌, ◌≤◌, ◌++◌, IfErr, IfOk, OnOk, map};
 ghost use Rattle.pmp_audit.specs.Answers.{Declines, IsAppended};
-ghost use Rattle.pmp_audit.specs.WriteList.{WritesRefuse};
-ghost use Rattle.pmp_audit.specs.declared.fault.ReportFault.TheVariants.{Memory};
-ghost use Rattle.pmp_text.specs.Refusals.{number_of};
-ghost use Rattle.pmp_web.specs.Answers.{CountSays, IsUnasked, line_of, name_lines, told_number};
+ghost use Rattle.pmp_web.specs.Answers.{CountSays, IsRefused, IsUnasked, line_in, line_of, name_lines, side_number};
 ghost use Rattle.pmp_text.specs.Columns.{column_value, columns};
-ghost use Rattle.pmp_web.specs.Rooms.{text_in};
+ghost use Rattle.pmp_audit.specs.AskedFile.{ScriptRefuses};
+ghost use Rattle.pmp_text.specs.Outcomes.{no_memory};
 
 use crate::rooms::Answer;
 use itoa::Buffer;
-use pmp_audit::{ReportFault, Side};
-use pmp_import::{ImportFault, Options};
-use pmp_text::{Column, FixedLog, NoMemory, Refusal, RowKind, Sink, read_script_in};
+use pmp_import::Options;
+use pmp_text::{
+    Column, Fault, FixedLog, NoMemory, Place, Refusal, RowKind, Sink, Source, read_script_in,
+};
 
 /// The greatest number of events in a script.
 const EVENTS: usize = 1 << 14;
@@ -56,55 +55,53 @@ macro_rules! tell {
                 $answer.line = 0;
                 ANSWERED
             }
-            Err(fault) => refuse($answer, &fault),
+            Err(fault) => refuse($answer, fault, side_number(fault.place)),
         }
     }};
 }
 
 pub(crate) use tell;
 
-/// Returns the status of a refusal, which leaves no text in the room.
-pub fn refuse(answer: &mut Answer, fault: &ReportFault) -> u32
-    ensures number { result ≡ told_number fault.now }
-    ensures line { answer.new.line ≡ line_of fault.now }
-    ensures empty { text_in answer.new ≡ [] }
+/// Returns the status of a refusal, its number and this one, which leaves no text in the room.
+pub fn refuse(answer: &mut Answer, fault: Fault, added: u32) -> u32
+    requires { added ≤ 256 }
+    ensures { IsRefused added fault result answer.new }
 {
     answer.clear();
-    answer.line = line_of(fault);
-    told_number(fault)
+    answer.line = line_of(fault.place);
+    added + u32::from(fault.refusal.number())
 }
 
-/// Returns the status of the refusal of a log, which leaves no text in the room.
-pub fn refuse_log(answer: &mut Answer, fault: ImportFault) -> u32
-    ensures number { result ≡ number_of fault.kind }
-    ensures line { answer.new.line ≡ fault.line }
-    ensures empty { text_in answer.new ≡ [] }
+/// Returns what is added to the number of a refusal.
+pub fn side_number(place: Place) -> u32
+    ensures is { result ≡ side_number place }
+    ensures most { result ≤ 256 }
 {
-    answer.clear();
-    answer.line = fault.line;
-    u32::from(fault.kind.number())
+    match place {
+        Place::In {
+            source: Source::New,
+            ..
+        } => OF_NEW,
+        _ => 0,
+    }
 }
 
-/// Returns the number of a refusal.
-fn told_number(fault: &ReportFault) -> u32
-    ensures { result ≡ told_number fault.now }
+/// Returns the line of a script or a log, or the row of a plan, or 0.
+fn line_in(source: Source, number: u64) -> u64
+    ensures { result ≡ line_in source number }
 {
-    let number = u32::from(fault.refusal().number());
-    match fault {
-        ReportFault::ScriptOf(Side::New, _)
-        | ReportFault::BadAfterOf(Side::New)
-        | ReportFault::NoMomentOf(Side::New) => OF_NEW + number,
+    match source {
+        Source::Trace | Source::Policy => 0,
         _ => number,
     }
 }
 
-/// Returns the line of a refusal, or 0.
-fn line_of(fault: &ReportFault) -> u64
-    ensures { result ≡ line_of fault.now }
+fn line_of(place: Place) -> u64
+    ensures { result ≡ line_of place }
 {
-    match fault {
-        ReportFault::Script(fault) | ReportFault::ScriptOf(_, fault) => fault.line,
-        _ => 0,
+    match place {
+        Place::In { source, number, .. } => line_in(source, number),
+        place => place.number(),
     }
 }
 
@@ -117,9 +114,9 @@ pub fn refuse_question(answer: &mut Answer, refusal: Refusal) -> u32
 }
 
 /// Appends how many publications the script has.
-pub fn append_count<S: Sink>(script: &[u8], out: &mut S) -> Result<(), ReportFault>
+pub fn append_count<S: Sink>(script: &[u8], out: &mut S) -> Result<(), Fault>
     ensures ok { IfOk result (IsAppended (λ _. CountSays script.now) (S.text out.old) (S.text out.new)) }
-    ensures err { IfErr result (Declines (WritesRefuse script.now)) }
+    ensures err { IfErr result (Declines (ScriptRefuses script.now)) }
 {
     let mut log = Log::new();
     let script = read_script_in(&mut log, script)?;
@@ -139,9 +136,9 @@ fn append_names<S: Sink>(columns: &[Column], out: &mut S) -> Result<(), NoMemory
 }
 
 /// Appends the names of the columns of such rows, a line each, or some of them.
-pub fn append_columns<S: Sink>(kind: RowKind, out: &mut S) -> Result<(), ReportFault>
+pub fn append_columns<S: Sink>(kind: RowKind, out: &mut S) -> Result<(), Fault>
     ensures ok { OnOk result (S.text out.new ≡ S.text out.old ++ name_lines (columns kind)) }
-    ensures err { IfErr result (λ fault. fault ≡ Memory) }
+    ensures err { IfErr result (λ fault. fault ≡ no_memory) }
 {
     append_names(kind.columns(), out)?;
     Ok(())

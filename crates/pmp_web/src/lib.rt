@@ -10,7 +10,6 @@
 #![tactic(auto)]
 
 ghost use Rattle.std.specs.Prelude.{Some};
-ghost use Rattle.pmp_audit.specs.WriteList.{WritesRefuse};
 ghost use Rattle.pmp_text.specs.declared.moments.When.TheVariants.{Number};
 ghost use Rattle.pmp_audit.specs.ScriptDiff.{DiffRefuses};
 ghost use Rattle.pmp_web.specs.Answers.{Answers, AnswersAccess, AnswersColumns, AnswersImport, AnswersVerdict};
@@ -19,6 +18,7 @@ ghost use Rattle.pmp_web.specs.Demand.{question_of};
 ghost use Rattle.pmp_web.specs.Plans.{AnswersMeets, AnswersPlan, security_of};
 ghost use Rattle.pmp_web.specs.Request.{format_of, row_kind_of, shown_by};
 ghost use Rattle.pmp_web.specs.Rooms.{script_in, text_in};
+ghost use Rattle.pmp_audit.specs.AskedFile.{ScriptRefuses};
 
 mod answering;
 mod plans;
@@ -26,7 +26,8 @@ mod request;
 mod rooms;
 
 use answering::{
-    ANSWERED, GUESSED, Log, append_columns, append_count, refuse, refuse_log, refuse_question, tell,
+    ANSWERED, GUESSED, Log, append_columns, append_count, refuse, refuse_question, side_number,
+    tell,
 };
 use plans::{file_after, security_of, tell_script, tell_verdicts};
 use pmp_audit::{
@@ -55,7 +56,7 @@ pub extern "C" fn tilvenka_page_columns(kind: u32, answer: &mut Answer) -> u32
 #[unsafe(no_mangle)]
 pub extern "C" fn tilvenka_page_publications(script: &Script, answer: &mut Answer) -> u32
     ensures { let script = script_in script.now in
-        Answers (CountSays script) (WritesRefuse script) result answer.new }
+        Answers (CountSays script) (ScriptRefuses script) result answer.new }
 {
     tell!(answer, append_count(script.text(), answer))
 }
@@ -96,7 +97,7 @@ pub extern "C" fn tilvenka_page_view(
 #[unsafe(no_mangle)]
 pub extern "C" fn tilvenka_page_writes(script: &Script, answer: &mut Answer) -> u32
     ensures { let script = script_in script.now in
-        Answers (RowsSay script) (WritesRefuse script) result answer.new }
+        Answers (RowsSay script) (ScriptRefuses script) result answer.new }
 {
     let log = &mut Log::new();
     tell!(answer, add_writes(log, script.text(), &[], answer))
@@ -106,7 +107,7 @@ pub extern "C" fn tilvenka_page_writes(script: &Script, answer: &mut Answer) -> 
 #[unsafe(no_mangle)]
 pub extern "C" fn tilvenka_page_lint(script: &Script, answer: &mut Answer) -> u32
     ensures { let script = script_in script.now in
-        Answers (LintAnswerSays script) (WritesRefuse script) result answer.new }
+        Answers (LintAnswerSays script) (ScriptRefuses script) result answer.new }
 {
     let log = &mut Log::new();
     tell!(answer, add_findings(log, script.text(), &[], answer))
@@ -220,7 +221,7 @@ pub extern "C" fn tilvenka_page_import(log: &Script, format: u32, answer: &mut A
             answer.line = 0;
             ANSWERED
         }
-        Err(fault) => refuse_log(answer, fault),
+        Err(fault) => refuse(answer, fault, 0),
     }
 }
 
@@ -239,7 +240,7 @@ pub extern "C" fn tilvenka_page_meets(
 {
     match file_after(script.text(), after) {
         Ok(file) => tell_verdicts(&file, plan.text(), answer),
-        Err(fault) => refuse(answer, &fault),
+        Err(fault) => refuse(answer, fault, side_number(fault.place)),
     }
 }
 
@@ -260,6 +261,6 @@ pub extern "C" fn tilvenka_page_plan(
     };
     match file_after(script.text(), 0) {
         Ok(file) => tell_script(&file, security, plan.text(), answer),
-        Err(fault) => refuse(answer, &fault),
+        Err(fault) => refuse(answer, fault, side_number(fault.place)),
     }
 }

@@ -1,26 +1,22 @@
 //! Plans beside a script: what is answered of them, and why nothing is.
 
-ghost use Rattle.std.specs.Prelude.{◌≡◌, ◌≤◌, [], IfErr, IfOk, Some, length};
+ghost use Rattle.std.specs.Prelude.{◌≡◌, ◌≤◌, IfErr, IfOk, Some, length};
 ghost use Rattle.pmp_audit.specs.Answers.{Declines};
 ghost use Rattle.pmp_audit.specs.AskedFile.{FileRefuses};
 ghost use Rattle.pmp_audit.specs.ScriptDiff.{GivesFile};
 ghost use Rattle.pmp_text.specs.Reports.{file_of_script};
 ghost use Rattle.pmp_text.specs.declared.moments.When.TheVariants.{Number};
-ghost use Rattle.pmp_web.specs.Plans.{HasNoVerdicts, IsPlanRefusal, PlanScriptSays, TellsOfPlan, plan_number, plan_row};
-ghost use Rattle.pmp_web.specs.Plans.{row_in_plan, security_of};
-ghost use Rattle.pmp_web.specs.Rooms.{text_in};
+ghost use Rattle.pmp_web.specs.Plans.{HasNoVerdicts, PlanScriptSays, TellsOfPlan};
+ghost use Rattle.pmp_web.specs.Plans.{security_of};
 ghost use Rattle.pmp_plan.specs.PlanRooms.{HasNoScript};
 ghost use Rattle.pmp_plan.specs.Verdicts.{VerdictsSay};
 
-use crate::answering::{ANSWERED, Log};
+use crate::answering::{ANSWERED, Log, refuse};
 use crate::rooms::Answer;
 use arrayvec::ArrayVec;
-use pmp_audit::ReportFault;
 use pmp_core::RegFile;
-use pmp_plan::{
-    AnswerFault, PlanFault, PlanRow, SEARCH_ROOM, Security, State, append_plan, append_verdicts,
-};
-use pmp_text::{ReadScript, read_script_in};
+use pmp_plan::{PlanRow, SEARCH_ROOM, Security, State, append_plan, append_verdicts};
+use pmp_text::{Fault, ReadScript, Refusal, Source, read_script_in};
 
 /// The greatest number of a plan's rows.
 const ROWS: usize = 1 << 10;
@@ -40,14 +36,14 @@ fn file_of(script: &ReadScript, done: u64) -> RegFile
 }
 
 /// Returns the register file after so many publications.
-pub fn file_after(script: &[u8], done: u64) -> Result<RegFile, ReportFault>
+pub fn file_after(script: &[u8], done: u64) -> Result<RegFile, Fault>
     ensures ok { IfOk result (GivesFile script.now (Some (Number done))) }
     ensures err { IfErr result (Declines (FileRefuses script.now (Some (Number done)))) }
 {
     let mut log = Log::new();
     let script = read_script_in(&mut log, script)?;
     if done > script.batches() {
-        return Err(ReportFault::BadAfter);
+        return Err(Refusal::BadAfter.whole().at_row(Source::Script, 0));
     }
     Ok(file_of(&script, done))
 }
@@ -66,54 +62,6 @@ pub fn security_of(value: u32) -> Option<Security>
     })
 }
 
-/// Returns the number of a refusal of a plan.
-fn plan_number(fault: AnswerFault) -> u32
-    ensures { result ≡ plan_number fault }
-{
-    let refusal = match fault {
-        AnswerFault::Text(fault) => fault.kind,
-        AnswerFault::Script(fault) => fault.kind,
-        AnswerFault::Plan(fault) => fault.refusal(),
-    };
-    OF_PLAN + u32::from(refusal.number())
-}
-
-/// Returns the number of the row that a fault is about, from 1, or 0.
-fn row_in_plan(fault: PlanFault) -> u64
-    ensures { result ≡ row_in_plan fault }
-{
-    match fault {
-        PlanFault::Overlap { row, .. }
-        | PlanFault::TooFine { row, .. }
-        | PlanFault::PastEnd { row }
-        | PlanFault::BadPair { row } => (row as u64).saturating_add(1),
-        PlanFault::FewEntries { row, takes, .. } if takes > 0 => (row as u64).saturating_add(1),
-        _ => 0,
-    }
-}
-
-/// Returns the number of the row that a refusal is about, from 1, or 0.
-fn plan_row(fault: AnswerFault) -> u64
-    ensures { result ≡ plan_row fault }
-{
-    match fault {
-        AnswerFault::Text(fault) => fault.row,
-        AnswerFault::Plan(fault) => row_in_plan(fault),
-        _ => 0,
-    }
-}
-
-/// Returns the status of a refusal of a plan, which leaves no text in the room.
-fn refuse_plan(answer: &mut Answer, fault: AnswerFault) -> u32
-    ensures number { result ≡ plan_number fault }
-    ensures line { answer.new.line ≡ plan_row fault }
-    ensures empty { text_in answer.new ≡ [] }
-{
-    answer.clear();
-    answer.line = plan_row(fault);
-    plan_number(fault)
-}
-
 /// Writes the script of a plan for a file's hart, and returns the status.
 pub fn tell_script(file: &RegFile, security: Security, plan: &[u8], answer: &mut Answer) -> u32
     ensures { TellsOfPlan (PlanScriptSays file.now security plan.now)
@@ -127,7 +75,7 @@ pub fn tell_script(file: &RegFile, security: Security, plan: &[u8], answer: &mut
             answer.line = 0;
             ANSWERED
         }
-        Err(fault) => refuse_plan(answer, fault),
+        Err(fault) => refuse(answer, fault, OF_PLAN),
     }
 }
 
@@ -142,6 +90,6 @@ pub fn tell_verdicts(file: &RegFile, plan: &[u8], answer: &mut Answer) -> u32
             answer.line = 0;
             ANSWERED
         }
-        Err(fault) => refuse_plan(answer, AnswerFault::Text(fault)),
+        Err(fault) => refuse(answer, fault, OF_PLAN),
     }
 }

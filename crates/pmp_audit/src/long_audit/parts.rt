@@ -6,10 +6,9 @@ ghost use Rattle.pmp_text.specs.Tables.{is_line_end, records_of};
 ghost use Rattle.pmp_audit.specs.LongParts.{AreJoined};
 ghost use Rattle.pmp_audit.specs.LongPieces.{IsPieceReported, PieceFails};
 
-use crate::fault::ReportFault;
 use crate::piece::{PieceReport, report_piece};
 use crate::standing::Standing;
-use pmp_text::{Moments, Place, ReadScript};
+use pmp_text::{Fault, Moments, Position, ReadScript};
 use std::alloc::{AllocError, Global};
 use std::thread;
 use std::thread::Threads;
@@ -24,7 +23,7 @@ pub fn report_parts<T: Threads + Sync>(
     script: &ReadScript,
     text: &[u8],
     standing: Standing,
-) -> Result<PieceReport, ReportFault>
+) -> Result<PieceReport, Fault>
     requires { standing.faults ≤ standing.place.next }
     ensures ok { IfOk result (IsPieceReported script.now (records_of text.now) standing) }
     ensures err { IfErr result (PieceFails script.now (records_of text.now) standing) }
@@ -39,11 +38,11 @@ pub fn report_parts<T: Threads + Sync>(
     let low = &text[..=end];
     let high = &text[end..];
     let middle = likely_behind(&script.moments(), standing.place, low);
-    let front = move || -> Result<PieceReport, ReportFault>
+    let front = move || -> Result<PieceReport, Fault>
         requires { IsSync T.row × (0 < half) × (standing.faults ≤ standing.place.next) }
         ensures { IfOk result (IsPieceReported script.entry.now (records_of low.entry.now) standing) }
     { report_parts(rt, alloc, half, script, low, standing) };
-    let back = move || -> Result<PieceReport, ReportFault>
+    let back = move || -> Result<PieceReport, Fault>
         requires { IsSync T.row × (half < parts) × (middle.faults ≤ middle.place.next) }
         ensures { IfOk result (IsPieceReported script.entry.now (records_of high.entry.now) middle) }
     { report_parts(rt, alloc, parts - half, script, high, middle) };
@@ -67,7 +66,7 @@ fn middle_line_end(text: &[u8]) -> Option<usize>
 }
 
 /// Returns the likely standing after this text, which is right if each line of the text is a plain row.
-fn likely_behind(moments: &Moments<'_>, place: Place, text: &[u8]) -> Standing
+fn likely_behind(moments: &Moments<'_>, place: Position, text: &[u8]) -> Standing
     ensures { result ≡ record { place = record result.place { bare = None }; faults = 0 } }
 {
     let mut lines: u64 = 0;
@@ -75,7 +74,7 @@ fn likely_behind(moments: &Moments<'_>, place: Place, text: &[u8]) -> Standing
         lines = lines.wrapping_add(u64::from(*byte == b'\n'));
     }
     Standing {
-        place: Place {
+        place: Position {
             begun: true,
             last: last_after(moments, text),
             next: place.next.saturating_add(lines.saturating_sub(1)),
@@ -95,9 +94,9 @@ fn last_after(moments: &Moments<'_>, text: &[u8]) -> Option<u64> {
 
 /// Returns the reports of two parts as one, if both were made, and the second from where the first one ends.
 fn joined(
-    front: Result<PieceReport, ReportFault>,
+    front: Result<PieceReport, Fault>,
     middle: Standing,
-    back: Result<PieceReport, ReportFault>,
+    back: Result<PieceReport, Fault>,
 ) -> Result<Option<PieceReport>, AllocError>
     ensures { IfOk result (λ joined. IfSome joined (AreJoined front middle back)) }
 {
@@ -105,7 +104,7 @@ fn joined(
         return Ok(None);
     };
     let behind = front.behind.place;
-    let likely = Place {
+    let likely = Position {
         bare: behind.bare,
         ..middle.place
     };
@@ -119,7 +118,7 @@ fn joined(
     Ok(Some(PieceReport {
         texts: front.texts,
         behind: Standing {
-            place: Place {
+            place: Position {
                 bare: behind.bare.or(back.behind.place.bare),
                 ..back.behind.place
             },

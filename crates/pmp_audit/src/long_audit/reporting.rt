@@ -6,11 +6,10 @@ ghost use Rattle.pmp_text.specs.Cutting.{IsCut};
 ghost use Rattle.pmp_text.specs.Tables.{records_of};
 ghost use Rattle.pmp_audit.specs.LongPieces.{IsPieceReported, PieceFails};
 
-use crate::fault::ReportFault;
 use crate::long_audit::parts::report_parts;
 use crate::piece::PieceReport;
 use crate::standing::Standing;
-use pmp_text::{Cut, InputFault, ReadScript, cut_piece};
+use pmp_text::{Cut, Fault, InputFault, ReadScript, cut_piece};
 use std::alloc::Global;
 use std::io::Read;
 use std::thread;
@@ -27,7 +26,7 @@ pub fn report_and_cut<T: Threads + Sync, R: Read>(
     reader: &mut R,
     held: &mut Vec<u8>,
     limit: usize,
-) -> (Result<PieceReport, ReportFault>, Result<Cut, InputFault>)
+) -> (Result<PieceReport, Fault>, Result<Cut, InputFault>)
     requires standing { standing.faults ≤ standing.place.next }
     requires held { vec_len held.old ≤ limit }
     ensures ok { IfOk result.0 (IsPieceReported script.now (records_of text.now) standing) }
@@ -39,7 +38,7 @@ pub fn report_and_cut<T: Threads + Sync, R: Read>(
         let report = report_parts(rt, alloc, jobs, script, text, standing);
         return (report, cut_piece(alloc, reader, held, limit));
     }
-    let mut report = || -> Result<PieceReport, ReportFault>
+    let mut report = || -> Result<PieceReport, Fault>
         requires { IsSync T.row × (standing.faults ≤ standing.place.next) }
         ensures { IfOk result (IsPieceReported script.entry.now (records_of text.entry.now) standing)
             × IfErr result (PieceFails script.entry.now (records_of text.entry.now) standing) }

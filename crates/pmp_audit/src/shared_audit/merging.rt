@@ -2,22 +2,19 @@
 
 ghost use Rattle.std.specs.Prelude.{◌≡◌, ◌+◌, ◌<◌, ◌++◌, ◌⊎◌, IfOk, IfErr, List, OnOk, Ok, Err, Contains, length, map};
 ghost use Rattle.pmp_core.specs.declared.decision.Decision.{Decision};
-ghost use Rattle.pmp_audit.specs.declared.fault.ReportFault.TheVariants.{Memory};
 ghost use Rattle.pmp_audit.specs.Rounds.{AreDealt};
+ghost use Rattle.pmp_text.specs.Outcomes.{no_memory};
 
 use super::job::Done;
-use crate::fault::ReportFault;
 use pmp_core::Decision;
 use pmp_share::Checker;
+use pmp_text::Fault;
 use std::alloc::{AllocError, Global};
 
 /// Returns the results of all workers, or why the first of those that stopped did.
-pub(crate) fn all_done(
-    alloc: Global,
-    results: Vec<Result<Done, ReportFault>>,
-) -> Result<Vec<Done>, ReportFault>
+pub(crate) fn all_done(alloc: Global, results: Vec<Result<Done, Fault>>) -> Result<Vec<Done>, Fault>
     ensures done { IfOk result (λ all. results.items ≡ map Ok all.items) }
-    ensures refused { IfErr result (λ fault. Contains results.items (Err fault) ⊎ (fault ≡ Memory)) }
+    ensures refused { IfErr result (λ fault. Contains results.items (Err fault) ⊎ (fault ≡ no_memory)) }
 {
     let mut all = Vec::new(alloc);
     for result in results {

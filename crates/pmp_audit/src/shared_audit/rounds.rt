@@ -11,11 +11,11 @@ use super::asking::asking;
 use super::job::Job;
 use super::merging::{all_done, checkers_of, merge};
 use super::running::run_jobs;
-use crate::fault::ReportFault;
+use crate::fault::fault_of_share;
 use crate::gate::Gate;
 use pmp_core::Decision;
 use pmp_share::{Checker, Publisher, ShareFault};
-use pmp_text::TraceRow;
+use pmp_text::{Fault, TraceRow};
 use std::alloc::Global;
 use std::sync::Wait;
 use std::thread::Threads;
@@ -55,7 +55,7 @@ fn round<R: Threads + Wait + Sync, G: Gate + Sync>(
     checkers: Vec<Checker>,
     rows: &[TraceRow],
     decided: &mut Vec<Decision>,
-) -> Result<Vec<Checker>, ReportFault>
+) -> Result<Vec<Checker>, Fault>
     requires some { 0 < length checkers.items }
     requires few { length checkers.items ≤ CHECKERS }
     requires same_unit { All (λ checker. checker.unit ≡ publisher.old.unit) checkers.items }
@@ -67,7 +67,10 @@ fn round<R: Threads + Wait + Sync, G: Gate + Sync>(
     ensures err { IfErr result (StopsRound publisher.old.published) }
 {
     let first = decided.len() as u64 + 1;
-    let jobs = jobs_of(alloc, publisher, checkers)?;
+    let jobs = match jobs_of(alloc, publisher, checkers) {
+        Ok(jobs) => jobs,
+        Err(fault) => return Err(fault_of_share(fault)),
+    };
     let results = run_jobs(rt, alloc, gate, jobs, rows, first)?;
     let all = all_done(alloc, results)?;
     merge(decided, &all, rows.len())?;
@@ -85,7 +88,7 @@ pub(crate) fn decide_asking<R: Threads + Wait + Sync, G: Gate + Sync>(
     after: u64,
     rows: &[TraceRow],
     decided: &mut Vec<Decision>,
-) -> Result<Vec<Checker>, ReportFault>
+) -> Result<Vec<Checker>, Fault>
     requires some { 0 < length checkers.items }
     requires few { length checkers.items ≤ CHECKERS }
     requires same_unit { All (λ checker. checker.unit ≡ publisher.old.unit) checkers.items }

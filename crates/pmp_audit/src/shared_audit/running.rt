@@ -6,9 +6,8 @@ ghost use Rattle.pmp_audit.specs.Rounds.{AreResults, IsResult};
 
 use super::job::{Done, Job};
 use super::working::work;
-use crate::fault::ReportFault;
 use crate::gate::Gate;
-use pmp_text::TraceRow;
+use pmp_text::{Fault, TraceRow};
 use std::alloc::{AllocError, Global};
 use std::thread;
 use std::thread::Threads;
@@ -25,7 +24,7 @@ pub(crate) fn run_jobs<R: Threads + Sync, G: Gate + Sync>(
     jobs: Vec<Job>,
     rows: &[TraceRow],
     first: u64,
-) -> Result<Vec<Result<Done, ReportFault>>, AllocError>
+) -> Result<Vec<Result<Done, Fault>>, AllocError>
     requires some { 0 < length jobs.items }
     requires few { length jobs.items ≤ CHECKERS }
     requires numbered { first + length rows.now ≤ 2 ^ 64 }
@@ -36,7 +35,7 @@ pub(crate) fn run_jobs<R: Threads + Sync, G: Gate + Sync>(
         return thread::map_vec(
             rt,
             jobs,
-            &|job: Job| -> Result<Done, ReportFault>
+            &|job: Job| -> Result<Done, Fault>
                 requires { (0 < workers) × (first + length rows.now ≤ 2 ^ 64) }
                 ensures { IsResult workers first rows.entry.now job result }
             { work(alloc, gate, job, workers, rows, first) },

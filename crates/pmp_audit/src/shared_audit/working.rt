@@ -7,12 +7,12 @@ ghost use Rattle.pmp_audit.specs.Working.{HasLearnt};
 ghost use Rattle.pmp_share.specs.Batches.{event_count};
 
 use super::job::{Done, Job};
-use crate::fault::ReportFault;
+use crate::fault::moved_on;
 use crate::gate::Gate;
 use pmp_core::{Decision, RegFile};
 use pmp_share::laws::law_same_events;
 use pmp_share::{Checker, Moved};
-use pmp_text::TraceRow;
+use pmp_text::{Fault, TraceRow};
 use std::alloc::Global;
 
 /// Decides the row in this file, given by `count` events that the checker learnt of, if no more events are published.
@@ -40,7 +40,7 @@ pub(crate) fn work<G: Gate>(
     workers: u8,
     rows: &[TraceRow],
     first: u64,
-) -> Result<Done, ReportFault>
+) -> Result<Done, Fault>
     requires some { 0 < workers }
     requires numbered { first + length rows.now ≤ 2 ^ 64 }
     ensures result { IsResult workers first rows.now job result }
@@ -59,7 +59,10 @@ pub(crate) fn work<G: Gate>(
     let mut place = usize::from(worker);
     while place < rows.len() {
         let number = first + place as u64;
-        let decision = ask(&mut checker, count, &file, &rows[place])?;
+        let decision = match ask(&mut checker, count, &file, &rows[place]) {
+            Ok(decision) => decision,
+            Err(moved) => return Err(moved_on(moved)),
+        };
         decisions.push((number, decision))?;
         gate.pass(worker, number);
         place += usize::from(workers);

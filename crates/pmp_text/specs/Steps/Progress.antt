@@ -10,7 +10,7 @@ use Rattle.pmp_core.specs.RegisterWrite.{step}
 use Rattle.pmp_core.specs.declared.event.Event.{Event}
 use Rattle.pmp_text.specs.declared.flaw.Flaw.{Flaw}
 use Rattle.pmp_text.specs.declared.refusal.Refusal.TheVariants.{Unpublished}
-use Rattle.pmp_text.specs.declared.script.LineFault.{LineFault}
+use Rattle.pmp_text.specs.declared.fault.Fault.{Fault}
 use Rattle.pmp_text.specs.declared.script.statement.Statement.{Statement}
 use Rattle.pmp_text.specs.declared.script.statement.Statement.TheVariants as statement
 use Rattle.pmp_text.specs.declared.script.statement.HeadStatement.{HeadStatement}
@@ -81,11 +81,11 @@ abbrev pub longer_head : HeadSoFar → ℕ → HeadStatement → HeadSoFar
 longer_head head number says =
     record { lines = head.lines ++ record { line = number; statement = says } ∷ []; is_over = head.is_over }
 
-abbrev pub unless : {X : Type 0} → (number : ℕ) → Option Flaw → X → Result X LineFault
+abbrev pub unless : {X : Type 0} → (number : ℕ) → Option Flaw → X → Result X Fault
 unless number (Some flaw) x = Err (at_line number flaw)
 unless number None x = Ok x
 
-abbrev pub after_head : HeadSoFar → ℕ → HeadStatement → Result HeadSoFar LineFault
+abbrev pub after_head : HeadSoFar → ℕ → HeadStatement → Result HeadSoFar Fault
 after_head head number says =
     unless number (head_fault head.is_over (says_in head.lines says) says) (longer_head head number says)
 
@@ -129,7 +129,7 @@ with_event so_far number event = record so_far {
   events = so_far.events + 1;
 }
 
-abbrev pub with_head : Reading → Result HeadSoFar LineFault → Result Reading LineFault
+abbrev pub with_head : Reading → Result HeadSoFar Fault → Result Reading Fault
 with_head so_far (Ok head) = Ok (record so_far { head = head })
 with_head so_far (Err fault) = Err fault
 
@@ -139,13 +139,13 @@ with_expected so_far number register value = record so_far {
       ++ record { register = register; value = value; line = number; events = so_far.events } ∷ [];
 }
 
-abbrev pub after_event : Version → Reading → ℕ → Event → Result Reading LineFault
+abbrev pub after_event : Version → Reading → ℕ → Event → Result Reading Fault
 after_event version so_far number event =
     let flaw = event_flaw version (profile_said so_far.head.lines).is_rv32 event in
     unless number (event_fault flaw (length so_far.progress.batch) so_far.events) (with_event so_far number event)
 
 -- the result of reading a line with this number and meaning
-abbrev pub after_statement : Version → Reading → ℕ → Result Statement Flaw → Result Reading LineFault
+abbrev pub after_statement : Version → Reading → ℕ → Result Statement Flaw → Result Reading Fault
 after_statement version so_far number (Err flaw) = Err (at_line number flaw)
 after_statement version so_far number (Ok (statement.Publish name)) =
     unless number (publish_fault (is_in so_far.marks) name so_far.done) (with_publish so_far name)
@@ -157,11 +157,11 @@ after_statement version so_far number (Ok (statement.Head says)) =
 after_statement version so_far number (Ok (statement.Expect register value)) =
     Ok (with_expected so_far number register value)
 
-abbrev pub after_line : Version → Reading → Line → Result Reading LineFault
+abbrev pub after_line : Version → Reading → Line → Result Reading Fault
 after_line version so_far line = after_statement version so_far line.number (said_by version line)
 
 -- what was read when the text ends; the first event line that no `publish` follows is at fault
-abbrev pub all_published : Option ℕ → Read → Result Read LineFault
+abbrev pub all_published : Option ℕ → Read → Result Read Fault
 all_published None read = Ok read
 all_published (Some number) read = Err (at_line number (as_whole Unpublished))
 
@@ -173,11 +173,11 @@ read_in so_far = record {
   marks = so_far.marks;
 }
 
-abbrev pub finished : Reading → Result Read LineFault
+abbrev pub finished : Reading → Result Read Fault
 finished so_far = all_published so_far.progress.since (read_in so_far)
 
 -- the result of reading these lines to the end, all of them in longhand
-abbrev pub resumed : Version → Reading → List Line → Result Read LineFault
+abbrev pub resumed : Version → Reading → List Line → Result Read Fault
 resumed version so_far [] = finished so_far
 resumed version so_far (line ∷ more) =
     elim (after_line version so_far line) [ Ok next ↦ resumed version next more | Err fault ↦ Err fault ]
@@ -185,7 +185,7 @@ resumed version so_far (line ∷ more) =
 -- ---- shorthands
 
 -- the result of reading these lines
-abbrev pub after_lines : Version → Reading → List Line → Result Reading LineFault
+abbrev pub after_lines : Version → Reading → List Line → Result Reading Fault
 after_lines version so_far [] = Ok so_far
 after_lines version so_far (line ∷ more) =
     elim (after_line version so_far line) [ Ok next ↦ after_lines version next more | Err fault ↦ Err fault ]
@@ -203,7 +203,7 @@ longhand_now (Sized size) so_far line = line ∷ []
 longhand_now Headed so_far line = longhand (file_now so_far) line
 
 -- the result of reading these lines to the end, each put in longhand
-abbrev pub read_on : Version → Reading → List Line → Result Read LineFault
+abbrev pub read_on : Version → Reading → List Line → Result Read Fault
 read_on version so_far [] = finished so_far
 read_on version so_far (line ∷ more) = elim (after_lines version so_far (longhand_now version so_far line)) [
   | Ok next ↦ read_on version next more
@@ -211,7 +211,7 @@ read_on version so_far (line ∷ more) = elim (after_lines version so_far (longh
 ]
 
 -- the meaning of a script of which this was read
-abbrev pub concluded : Version → Result Read LineFault → Result ScriptContents LineFault
+abbrev pub concluded : Version → Result Read Fault → Result ScriptContents Fault
 concluded version (Err fault) = Err fault
 concluded (Sized size) (Ok read) = Ok (record {
   size = size;

@@ -5,9 +5,9 @@ ghost use Rattle.pmp_text.specs.Heads.{event_flaw, first_of, foreign_at, foreign
 ghost use Rattle.pmp_text.specs.Heads.{write_flaw};
 
 use crate::expectation::Expectation;
+use crate::fault::Fault;
 use crate::flaw::Flaw;
 use crate::refusal::Refusal;
-use crate::script::LineFault;
 use crate::script::head::HeadLine;
 use crate::script::statement::HeadStatement;
 use crate::script::version::Version;
@@ -25,14 +25,14 @@ fn foreign_kind(is_rv32: bool, csr: Csr) -> Option<Refusal>
 }
 
 /// Returns the same, at the line that names it.
-fn foreign_at(is_rv32: bool, line: u64, csr: Csr) -> Option<LineFault>
+fn foreign_at(is_rv32: bool, line: u64, csr: Csr) -> Option<Fault>
     ensures { result ≡ foreign_at is_rv32 line csr }
 {
     let kind = foreign_kind(is_rv32, csr)?;
     Some(kind.part(1).at_line(line))
 }
 
-fn foreign_line(is_rv32: bool, line: &HeadLine) -> Option<LineFault>
+fn foreign_line(is_rv32: bool, line: &HeadLine) -> Option<Fault>
     ensures { result ≡ foreign_line is_rv32 line.now }
 {
     match line.statement {
@@ -42,7 +42,7 @@ fn foreign_line(is_rv32: bool, line: &HeadLine) -> Option<LineFault>
 }
 
 /// Returns the fault of the first line of a head that sets such a register.
-pub fn first_foreign_line(is_rv32: bool, lines: &[HeadLine]) -> Option<LineFault>
+pub fn first_foreign_line(is_rv32: bool, lines: &[HeadLine]) -> Option<Fault>
     ensures { result ≡ first_of (foreign_line is_rv32) lines.now }
 {
     for line in lines {
@@ -53,14 +53,14 @@ pub fn first_foreign_line(is_rv32: bool, lines: &[HeadLine]) -> Option<LineFault
     None
 }
 
-fn foreign_expectation(is_rv32: bool, expected: &Expectation) -> Option<LineFault>
+fn foreign_expectation(is_rv32: bool, expected: &Expectation) -> Option<Fault>
     ensures { result ≡ foreign_expectation is_rv32 expected.now }
 {
     foreign_at(is_rv32, expected.line, expected.register)
 }
 
 /// Returns the fault of the first line that expects something of such a register.
-pub fn first_foreign_expectation(is_rv32: bool, expected: &[Expectation]) -> Option<LineFault>
+pub fn first_foreign_expectation(is_rv32: bool, expected: &[Expectation]) -> Option<Fault>
     ensures { result ≡ first_of (foreign_expectation is_rv32) expected.now }
 {
     for one in expected {

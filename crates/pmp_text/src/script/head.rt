@@ -6,9 +6,9 @@ ghost use Rattle.pmp_text.specs.Outcomes.{Gives};
 ghost use Rattle.pmp_text.specs.Steps.Progress.{after_head, no_head, over, says_in};
 ghost use Rattle.pmp_text.specs.Steps.Reading.{IsHead, head_of};
 
+use crate::fault::Fault;
 use crate::flaw::Flaw;
 use crate::refusal::Refusal;
-use crate::script::LineFault;
 use crate::script::statement::HeadStatement;
 use arrayvec::ArrayVec;
 use pmp_core::{Hart, Profile, Size};
@@ -84,7 +84,7 @@ impl Head {
     }
 
     /// Takes a line of the head.
-    pub fn take(&mut self, line: u64, statement: HeadStatement) -> Result<(), LineFault>
+    pub fn take(&mut self, line: u64, statement: HeadStatement) -> Result<(), Fault>
         requires { IsHead self.old }
         ensures hart { OnOk result (IsHead self.new) }
         ensures taken { Gives (λ _. head_of self.new) result (after_head (head_of self.old) line statement) }
@@ -97,7 +97,7 @@ impl Head {
         }
         let said = said_after(self.said, statement).map_err(|flaw| flaw.at_line(line))?;
         if self.lines.is_full() {
-            return Err(Refusal::Memory.whole().at_line(0));
+            return Err(Fault::from(Refusal::Memory));
         }
         self.lines.push(HeadLine { line, statement });
         self.said = said;

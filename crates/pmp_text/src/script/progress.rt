@@ -8,7 +8,7 @@ ghost use Rattle.pmp_text.specs.Steps.Progress.{longer, nothing_read, published}
 ghost use Rattle.pmp_text.specs.Steps.Reading.{IsOpen, progress_of};
 
 use crate::event_log::EventLog;
-use crate::script::LineFault;
+use crate::fault::Fault;
 use pmp_core::Event;
 
 /// The open batch: the last events of a log, after the published ones.
@@ -33,7 +33,7 @@ impl OpenBatch {
     }
 
     /// Publishes the open batch, and opens an empty one.
-    pub fn publish<L: EventLog>(&mut self, log: &mut L) -> Result<(), LineFault>
+    pub fn publish<L: EventLog>(&mut self, log: &mut L) -> Result<(), Fault>
         requires { IsOpen (L.kept log.old) self.old }
         ensures open { OnOk result (IsOpen (L.kept log.new) self.new) }
         ensures ended { OnOk result (L.kept log.new ≡ with_end (L.kept log.old)) }
@@ -55,12 +55,7 @@ impl OpenBatch {
     }
 
     /// Adds an event to the open batch, which has room for it.
-    pub fn add<L: EventLog>(
-        &mut self,
-        log: &mut L,
-        line: u64,
-        event: Event,
-    ) -> Result<(), LineFault>
+    pub fn add<L: EventLog>(&mut self, log: &mut L, line: u64, event: Event) -> Result<(), Fault>
         requires open { IsOpen (L.kept log.old) self.old }
         requires room { length (progress_of (L.kept log.old) self.old).batch < BATCH_EVENTS }
         ensures open { OnOk result (IsOpen (L.kept log.new) self.new) }

@@ -8,11 +8,12 @@ ghost use Rattle.pmp_text.specs.Scripts.{most_bytes, script_meaning};
 ghost use Rattle.pmp_text.specs.Steps.Views.{lines_left};
 
 use crate::event_log::EventLog;
+use crate::fault::Fault;
 use crate::refusal::Refusal;
+use crate::script::ReadScript;
 use crate::script::reading::ScriptReading;
 use crate::script::significant::SignificantLines;
 use crate::script::version::{Version, read_version};
-use crate::script::{LineFault, ReadScript};
 
 /// The greatest length of a script of version 1 or 2, in bytes.
 pub const MAX_SCRIPT: usize = 1 << 20;
@@ -28,7 +29,7 @@ fn read_statements<'a, L: EventLog>(
     log: &'a mut L,
     version: Version,
     lines: SignificantLines,
-) -> Result<ReadScript<'a>, LineFault>
+) -> Result<ReadScript<'a>, Fault>
     ensures { Gives (λ script. script) result
         (concluded version (read_on version nothing_begun (lines_left lines.entry))) }
 {
@@ -50,10 +51,7 @@ fn is_too_long(text: &[u8]) -> bool
 /// Returns the script that a text describes, else its first fault. The time is linear in the text, and only the
 /// publications and expectations take room, in the log, which is cleared first: if there is none, `Memory` is returned
 /// instead of any later fault.
-pub fn read_script_in<'a, L: EventLog>(
-    log: &'a mut L,
-    text: &[u8],
-) -> Result<ReadScript<'a>, LineFault>
+pub fn read_script_in<'a, L: EventLog>(log: &'a mut L, text: &[u8]) -> Result<ReadScript<'a>, Fault>
     ensures { Gives (λ script. script) result (script_meaning text.now) }
 {
     if is_too_long(text) {

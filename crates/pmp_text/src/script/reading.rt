@@ -21,9 +21,11 @@ ghost use Rattle.pmp_text.specs.Steps.Views.{seen_line};
 
 use crate::event_log::EventLog;
 use crate::expectation::Expectation;
+use crate::fault::Fault;
 use crate::flaw::Flaw;
 use crate::mark::{Mark, Name};
 use crate::refusal::Refusal;
+use crate::script::ReadScript;
 use crate::script::hart_registers::event_flaw;
 use crate::script::head::Head;
 use crate::script::progress::OpenBatch;
@@ -33,7 +35,6 @@ use crate::script::significant::NumberedLine;
 use crate::script::start::{file_said, start};
 use crate::script::statement::{Statement, read_statement};
 use crate::script::version::Version;
-use crate::script::{LineFault, ReadScript};
 use pmp_core::{BATCH_EVENTS, Event, RegFile};
 
 /// Whether one of these has the name.
@@ -89,7 +90,7 @@ fn mark_flaw(count: usize, marks: &[Mark], name: Name) -> Option<Flaw>
 }
 
 /// Names the moment after the publications of a log, if there is a name.
-fn mark<L: EventLog>(log: &mut L, name: Option<Name>) -> Result<(), LineFault>
+fn mark<L: EventLog>(log: &mut L, name: Option<Name>) -> Result<(), Fault>
     ensures marked { Gives (λ _. (L.kept log.new).marks) result
         (Ok ((L.kept log.old).marks ++ mark_at name (length (L.kept log.old).ends))) }
     ensures kept { OnOk result (L.kept log.new ≡ record (L.kept log.old) { marks = (L.kept log.new).marks }) }
@@ -137,7 +138,7 @@ impl ScriptReading {
         version: Version,
         line: u64,
         event: Event,
-    ) -> Result<(), LineFault>
+    ) -> Result<(), Fault>
         requires { IsReading (L.kept log.old) self.old }
         ensures reading { OnOk result (IsReading (L.kept log.new) self.new) }
         ensures taken { Gives (λ _. reading_of (L.kept log.new) self.new) result
@@ -174,7 +175,7 @@ impl ScriptReading {
         log: &mut L,
         line: NumberedLine,
         writes: Writes,
-    ) -> Result<(), LineFault>
+    ) -> Result<(), Fault>
         requires { IsReading (L.kept log.old) self.old }
         ensures reading { OnOk result (IsReading (L.kept log.new) self.new) }
         ensures taken { Gives (λ _. reading_of (L.kept log.new) self.new) result
@@ -195,7 +196,7 @@ impl ScriptReading {
         log: &mut L,
         line: NumberedLine,
         says: Result<Shorthand, Flaw>,
-    ) -> Result<(), LineFault>
+    ) -> Result<(), Fault>
         requires { IsReading (L.kept log.old) self.old }
         ensures reading { OnOk result (IsReading (L.kept log.new) self.new) }
         ensures taken { let before = reading_of (L.kept log.old) self.old in
@@ -217,7 +218,7 @@ impl ScriptReading {
         log: &mut L,
         version: Version,
         line: NumberedLine,
-    ) -> Result<(), LineFault>
+    ) -> Result<(), Fault>
         requires { IsReading (L.kept log.old) self.old }
         ensures reading { OnOk result (IsReading (L.kept log.new) self.new) }
         ensures taken { Gives (λ _. reading_of (L.kept log.new) self.new) result
@@ -261,7 +262,7 @@ impl ScriptReading {
         log: &mut L,
         version: Version,
         line: NumberedLine,
-    ) -> Result<(), LineFault>
+    ) -> Result<(), Fault>
         requires { IsReading (L.kept log.old) self.old }
         ensures reading { OnOk result (IsReading (L.kept log.new) self.new) }
         ensures taken { let before = reading_of (L.kept log.old) self.old in
@@ -278,7 +279,7 @@ impl ScriptReading {
     }
 
     /// Returns the script, if no events are left unpublished and the head's values are kept.
-    pub fn finish<L: EventLog>(self, log: &L, version: Version) -> Result<ReadScript<'_>, LineFault>
+    pub fn finish<L: EventLog>(self, log: &L, version: Version) -> Result<ReadScript<'_>, Fault>
         requires { IsReading (L.kept log.now) self }
         ensures ok { IfOk result
             (λ script. concluded version (finished (reading_of (L.kept log.now) self)) ≡ Ok script) }

@@ -7,11 +7,12 @@ ghost use Rattle.pmp_text.specs.SizedScripts.{sized_meaning, unsized_fault};
 ghost use Rattle.pmp_text.specs.declared.script.sized.ScriptKind.TheVariants.{Memory};
 
 use crate::event_log::GrowingLog;
+use crate::fault::Fault;
 use crate::refusal::Refusal;
 use crate::script::reader::{MAX_SCRIPT, read_script_in};
 use crate::script::significant::SignificantLines;
 use crate::script::version::{Version, read_version};
-use crate::script::{LineFault, ReadScript, part_of};
+use crate::script::{ReadScript, part_of};
 use pmp_core::{BATCH_EVENTS, Event, Size};
 use std::alloc::{AllocError, Global};
 use std::marker::Model;
@@ -75,13 +76,13 @@ impl ScriptKind {
     }
 }
 
-impl From<LineFault> for ScriptFault {
+impl From<Fault> for ScriptFault {
     ghost from_gives = { λ fault simple. simple ≡ line_of fault };
 
-    fn from(fault: LineFault) -> ScriptFault {
+    fn from(fault: Fault) -> ScriptFault {
         ScriptFault {
-            kind: ScriptKind::of(fault.kind),
-            line: fault.line,
+            kind: ScriptKind::of(fault.refusal),
+            line: fault.place.number(),
         }
     }
 }

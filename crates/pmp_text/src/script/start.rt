@@ -7,8 +7,8 @@ ghost use Rattle.pmp_text.specs.Longhand.{file_said};
 ghost use Rattle.pmp_text.specs.Steps.Reading.{IsHead};
 
 use crate::expectation::Expectation;
+use crate::fault::Fault;
 use crate::refusal::Refusal;
-use crate::script::LineFault;
 use crate::script::hart_field::{HartField, kind_of};
 use crate::script::hart_registers::{first_foreign_expectation, first_foreign_line};
 use crate::script::head::{Head, HeadLine};
@@ -125,7 +125,7 @@ fn with_bits(said: Profile) -> Profile
 
 /// Returns the hart that a head describes, if there is one.
 #[tactic(auto, unfolding(crate::specs::Heads::bits_fault))]
-fn hart_of(head: &Head) -> Result<Hart, LineFault>
+fn hart_of(head: &Head) -> Result<Hart, Fault>
     requires { IsHead head.now }
     ensures ok { let lines = head.now.lines.items in
         IfOk result (λ hart. (bits_fault lines ≡ None) × (hart ≡ hart_said lines)) }
@@ -159,7 +159,7 @@ pub(super) fn file_said(head: &Head) -> RegFile
 
 /// Returns the fault that the whole head has on this file.
 #[tactic(auto, unfolding(crate::specs::Heads::fault_on))]
-fn fault_on(file: &RegFile, lines: &[HeadLine], expected: &[Expectation]) -> Option<LineFault>
+fn fault_on(file: &RegFile, lines: &[HeadLine], expected: &[Expectation]) -> Option<Fault>
     ensures { result ≡ fault_on file.now lines.now expected.now }
 {
     let is_rv32 = file.hart().profile().is_rv32;
@@ -170,7 +170,7 @@ fn fault_on(file: &RegFile, lines: &[HeadLine], expected: &[Expectation]) -> Opt
 
 /// Returns the register file that a head describes, if its hart has what the head and the expectations name, and its
 /// registers keep the values that they are set to.
-pub fn start(head: &Head, expected: &[Expectation]) -> Result<RegFile, LineFault>
+pub fn start(head: &Head, expected: &[Expectation]) -> Result<RegFile, Fault>
     requires { IsHead head.now }
     ensures { result ≡ started head.now.lines.items expected.now }
 {

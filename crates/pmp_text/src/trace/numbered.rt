@@ -3,12 +3,13 @@
 ghost use Rattle.std.specs.Prelude.{◌≡◌, IfErr, IfOk, map};
 ghost use Rattle.pmp_text.specs.NumberedTraces.{AreRowsOf, IsFaultOf, numbered_row, refusal_of_trace, row_of_fault};
 ghost use Rattle.pmp_text.specs.NumberedTraces.{trace_kind};
-ghost use Rattle.pmp_text.specs.Outcomes.{no_memory_for_rows};
+ghost use Rattle.pmp_text.specs.Outcomes.{no_memory};
 
+use crate::fault::Fault;
 use crate::moments::Moments;
 use crate::refusal::Refusal;
+use crate::trace::TraceRow;
 use crate::trace::reader::read_trace_by;
-use crate::trace::{RowFault, TraceRow};
 use pmp_core::Access;
 use std::alloc::{AllocError, Global};
 
@@ -79,19 +80,19 @@ impl TraceKind {
     }
 }
 
-impl From<RowFault> for TraceFault {
+impl From<Fault> for TraceFault {
     ghost from_gives = { λ fault simple. simple ≡ row_of_fault fault };
 
-    fn from(fault: RowFault) -> TraceFault {
+    fn from(fault: Fault) -> TraceFault {
         TraceFault {
-            kind: TraceKind::of(fault.kind),
-            row: fault.row,
+            kind: TraceKind::of(fault.refusal),
+            row: fault.place.number(),
         }
     }
 }
 
 impl From<AllocError> for TraceFault {
-    ghost from_gives = { λ _ fault. fault ≡ row_of_fault no_memory_for_rows };
+    ghost from_gives = { λ _ fault. fault ≡ row_of_fault no_memory };
 
     fn from(_: AllocError) -> TraceFault {
         TraceFault {

@@ -2,24 +2,25 @@
 
 ghost use Rattle.std.specs.Prelude.{◌≡◌, ◌+◌, ◌^◌, ◌<◌, IfOk, None, length, map};
 ghost use Rattle.pmp_text.specs.LongTraces.{long_rows_meaning};
-ghost use Rattle.pmp_text.specs.Outcomes.{GivesRows};
+ghost use Rattle.pmp_text.specs.Outcomes.{Gives};
 ghost use Rattle.pmp_text.specs.TraceFaults.{IsInOrder, afters};
 ghost use Rattle.pmp_text.specs.Traces.{row_fields, trace_meaning};
 
+use crate::fault::{Fault, Source};
 use crate::moments::Moments;
 use crate::refusal::Refusal;
-use crate::trace::rows::{Place, RowReader};
-use crate::trace::{RowFault, TraceRow};
+use crate::trace::TraceRow;
+use crate::trace::rows::{Position, RowReader};
 use std::alloc::Global;
 
 /// The greatest length of a trace, in bytes.
 pub const MAX_TRACE: usize = 1 << 24;
 
 /// Returns the remaining rows, which begin with the first row of a trace, else the first fault.
-fn read_rows(alloc: Global, left: &mut RowReader<'_>) -> Result<Vec<TraceRow>, RowFault>
+fn read_rows(alloc: Global, left: &mut RowReader<'_>) -> Result<Vec<TraceRow>, Fault>
     requires first { left.old.place.last ≡ None }
     requires numbered { left.old.place.next + length left.old.records < 2 ^ 64 }
-    ensures { GivesRows (λ rows. map row_fields rows.items) result
+    ensures { Gives (λ rows. map row_fields rows.items) result
         (long_rows_meaning left.old.moments left.old.place.next left.old.records) }
 {
     let mut rows = Vec::new(alloc);
@@ -36,17 +37,17 @@ pub fn read_trace_by(
     alloc: Global,
     text: &[u8],
     moments: &Moments<'_>,
-) -> Result<Vec<TraceRow>, RowFault>
-    ensures given { GivesRows (λ rows. map row_fields rows.items) result (trace_meaning moments.now text.now) }
+) -> Result<Vec<TraceRow>, Fault>
+    ensures given { Gives (λ rows. map row_fields rows.items) result (trace_meaning moments.now text.now) }
     ensures ordered { IfOk result (λ rows. IsInOrder moments.now.publications 0 (afters (map row_fields rows.items))) }
 {
     if text.len() > MAX_TRACE {
-        return Err(Refusal::TooLong.whole().at_row(0));
+        return Err(Refusal::TooLong.whole().at_row(Source::Trace, 0));
     }
-    let mut left = RowReader::open(alloc, text, moments, Place::beginning(1))?;
+    let mut left = RowReader::open(alloc, text, moments, Position::beginning(1))?;
     if left.place().begun {
         read_rows(alloc, &mut left)
     } else {
-        Err(Refusal::BadHeader.whole().at_row(0))
+        Err(Refusal::BadHeader.whole().at_row(Source::Trace, 0))
     }
 }

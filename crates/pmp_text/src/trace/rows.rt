@@ -3,25 +3,26 @@
 ghost use Rattle.std.specs.Prelude.{◌≡◌, ◌+◌, ◌^◌, ◌<◌, ◌≤◌, ◌⊎◌, [], IfErr, IfOk, IfSome, None, Ok, Some};
 ghost use Rattle.pmp_text.specs.LongTraces.{IsHeaded, beginning, has_begun, piece_fault, row_records};
 ghost use Rattle.pmp_text.specs.LongTraces.{too_long_for_rows};
-ghost use Rattle.pmp_text.specs.Outcomes.{no_input_for_rows, no_memory_for_rows};
+ghost use Rattle.pmp_text.specs.Outcomes.{no_memory};
 ghost use Rattle.pmp_text.specs.RowsLeft.{IsNextRow, IsOutOfNumbers, place_after};
 ghost use Rattle.pmp_text.specs.Steps.Records.{IsNext};
 ghost use Rattle.pmp_text.specs.Tables.{records_of};
 ghost use Rattle.pmp_text.specs.Traces.{first_row_fault};
 
+use crate::fault::{Fault, Source};
 use crate::flaw::Flaw;
 use crate::moments::Moments;
 use crate::refusal::Refusal;
+use crate::trace::TraceRow;
 use crate::trace::plain::{behind_plain_header, plain_line};
 use crate::trace::records::Records;
 use crate::trace::row_fields::{RowFields, is_header};
-use crate::trace::{RowFault, TraceRow};
 use std::alloc::Global;
 use std::marker::Model;
 
 /// The position of a piece of a trace.
 #[derive(Clone, Copy, PartialEq, Eq)]
-pub struct Place {
+pub struct Position {
     /// Whether the header was read.
     pub begun: bool,
     /// How many publications the previous row asks for, if there is one.
@@ -32,12 +33,12 @@ pub struct Place {
     pub bare: Option<u64>,
 }
 
-impl Place {
+impl Position {
     /// Returns the position where a trace begins whose first row has this number.
-    pub fn beginning(first: u64) -> Place
+    pub fn beginning(first: u64) -> Position
         ensures { result ≡ beginning first }
     {
-        Place {
+        Position {
             begun: false,
             last: None,
             next: first,
@@ -46,15 +47,15 @@ impl Place {
     }
 
     /// Returns the position after one more row. If its number is the last one there is, the trace is too long.
-    fn behind(self, row: &TraceRow) -> Result<Place, RowFault>
+    fn behind(self, row: &TraceRow) -> Result<Position, Fault>
         ensures ok { IfOk result (λ place. (self.next + 1 < 2 ^ 64) × (place ≡ place_after self row.now)) }
         ensures err { IfErr result (λ fault. (fault ≡ too_long_for_rows) × (2 ^ 64 ≤ self.next + 1)) }
     {
         let next = self
             .next
             .checked_add(1)
-            .ok_or(Refusal::TooLong.whole().at_row(0))?;
-        Ok(Place {
+            .ok_or(Refusal::TooLong.whole().at_row(Source::Trace, 0))?;
+        Ok(Position {
             begun: self.begun,
             last: Some(row.after),
             next,
@@ -76,7 +77,7 @@ pub struct RowReader<'a> {
     /// The remaining text once a line isn't plain.
     records: Records<'a>,
     moments: &'a Moments<'a>,
-    place: Place,
+    place: Position,
 }
 
 impl<'a> Model for RowReader<'a> {
@@ -94,11 +95,11 @@ impl<'a> Model for RowReader<'a> {
 }
 
 /// Returns what the next record says, if there is one.
-fn next_said(records: &mut Records<'_>, moments: &Moments<'_>) -> Result<Option<Said>, RowFault>
+fn next_said(records: &mut Records<'_>, moments: &Moments<'_>) -> Result<Option<Said>, Fault>
     ensures some { IfOk result (λ found. IfSome found (λ said.
         IsNext moments.now records.old.left said records.new.left)) }
     ensures end { result ≡ Ok None → (records.old.left ≡ []) × (records.new.left ≡ []) }
-    ensures failed { IfErr result (λ fault. (fault ≡ no_memory_for_rows) ⊎ (fault ≡ no_input_for_rows)) }
+    ensures failed { IfErr result (λ fault. fault ≡ no_memory) }
 {
     if records.read()? {
         Ok(Some(RowFields::read(records.fields(), moments)))
@@ -116,8 +117,8 @@ impl<'a> RowReader<'a> {
         alloc: Global,
         text: &'a [u8],
         moments: &'a Moments<'a>,
-        place: Place,
-    ) -> Result<RowReader<'a>, RowFault>
+        place: Position,
+    ) -> Result<RowReader<'a>, Fault>
         ensures header { IfOk result (λ _. IsHeaded place.begun (records_of text.now)) }
         ensures rows { IfOk result (λ rows. rows ≡ record {
           records = row_records place.begun (records_of text.now);
@@ -125,7 +126,7 @@ impl<'a> RowReader<'a> {
           place = record place { begun = has_begun place.begun (records_of text.now) };
         }) }
         ensures err { IfErr result (λ fault. (piece_fault moments.now place (records_of text.now) ≡ Some fault)
-            ⊎ (fault ≡ no_memory_for_rows) ⊎ (fault ≡ no_input_for_rows)) }
+            ⊎ (fault ≡ no_memory)) }
     {
         let mut rows = RowReader {
             alloc,
@@ -143,7 +144,7 @@ impl<'a> RowReader<'a> {
                 return Ok(rows);
             }
             if !is_header(rows.records.fields()) {
-                return Err(Refusal::BadHeader.whole().at_row(0));
+                return Err(Refusal::BadHeader.whole().at_row(Source::Trace, 0));
             }
         }
         rows.place.begun = true;
@@ -151,18 +152,18 @@ impl<'a> RowReader<'a> {
     }
 
     /// Returns the position of the next row.
-    pub fn place(&self) -> Place
+    pub fn place(&self) -> Position
         ensures { result ≡ self.now.place }
     {
         self.place
     }
 
     /// Returns what the next record says, if there is one.
-    fn next_fields(&mut self) -> Result<Option<Said>, RowFault>
+    fn next_fields(&mut self) -> Result<Option<Said>, Fault>
         ensures some { IfOk result (λ found. IfSome found (λ said.
             IsNext self.old.moments self.old.records said self.new.records)) }
         ensures end { result ≡ Ok None → (self.old.records ≡ []) × (self.new.records ≡ []) }
-        ensures failed { IfErr result (λ fault. (fault ≡ no_memory_for_rows) ⊎ (fault ≡ no_input_for_rows)) }
+        ensures failed { IfErr result (λ fault. fault ≡ no_memory) }
         ensures moments { self.new.moments ≡ self.old.moments }
         ensures place { self.new.place ≡ self.old.place }
     {
@@ -178,12 +179,12 @@ impl<'a> RowReader<'a> {
     }
 
     /// Returns the next row, if there is one. After an error the state of the rest is unspecified.
-    pub fn next(&mut self) -> Result<Option<TraceRow>, RowFault>
+    pub fn next(&mut self) -> Result<Option<TraceRow>, Fault>
         ensures row { IfOk result (λ found. IfSome found (λ row. IsNextRow self.old row self.new)) }
         ensures end { result ≡ Ok None → (self.old.records ≡ []) × (self.new ≡ self.old) }
         ensures err { IfErr result (λ fault.
             (first_row_fault self.old.moments self.old.place.last self.old.place.next self.old.records
-            ≡ Some fault) ⊎ (fault ≡ no_memory_for_rows) ⊎ (fault ≡ no_input_for_rows)
+            ≡ Some fault) ⊎ (fault ≡ no_memory)
             ⊎ ((fault ≡ too_long_for_rows) × IsOutOfNumbers self.old)) }
     {
         let Some(said) = self.next_fields()? else {
@@ -199,7 +200,7 @@ impl<'a> RowReader<'a> {
                 self.place = self.place.behind(&row)?;
                 Ok(Some(row))
             }
-            Err(flaw) => Err(flaw.at_row(self.place.next)),
+            Err(flaw) => Err(flaw.at_row(Source::Trace, self.place.next)),
         }
     }
 }

@@ -1,12 +1,12 @@
 use Rattle.std.proofs.Common.{rules, ◌≡◌, ◌≤◌, Err, vec_len, arith}
 use Rattle.std.proofs.lemmas.Result.{IfErr-at_err, IfOk-at_ok}
 use Rattle.pmp_text.specs.Tables.{records_of}
-use Rattle.pmp_audit.specs.declared.fault.ReportFault.TheVariants.{Output}
 use Rattle.pmp_audit.specs.LongPieces.{PieceFails}
 use Rattle.pmp_audit.proofs.LongSteps.{goes_on, going_begins}
 use Rattle.pmp_audit.proofs.LongTurns.{cut_stops, ends_badly, ends_well, fails, has_front, has_last, no_turn}
 use Rattle.pmp_audit.proofs.LongTurns.{stops_short}
 use Rattle.pmp_audit.proofs.PieceTexts.{few_refused}
+use Rattle.pmp_text.specs.Outcomes.{no_output}
 use Rattle.pmp_audit.proofs.long_audit.audit_pieces.Goals as goal
 
 pub loop-count-init : goal.loop-count-init
@@ -62,7 +62,7 @@ returns-in_err-write_texts-in-Ok-Front-clause-err g c = λ text means.
     let piece = c.in-Ok-Front.text.items in
     let reported = IfOk-at_ok _ c.in_ok-report-in-Ok-Front.was
     (rw c.deref.ensures.value at c.report_and_cut-report.ensures.ok) in
-    let stopped : c.from_residual-in_err-write_texts-in-Ok-Front.result ≡ Err Output = search rules in
+    let stopped : c.from_residual-in_err-write_texts-in-Ok-Front.result ≡ Err no_output = search rules in
     rw stopped (stops_short going c.args.limit _ piece (has_front going c.args.limit _ _ piece front) _ _ reported _
     (rw c.deref-in-Ok-Front.ensures.value at c.in_err-write_texts-in-Ok-Front.ensures.err) text means)
 
@@ -82,7 +82,7 @@ returns-in_err-write_texts-in-Ok-Last-clause-err g c = λ text means.
     let cut = rw c.in-Ok-Last.field-0-is at (rw c.in-Ok-Last.is at c.loop-count.invariant.3) in
     let going = c.loop-count.invariant.2 in
     let piece = c.in-Ok-Last.text.items in
-    let stopped : c.from_residual-in_err-write_texts-in-Ok-Last.result ≡ Err Output = search rules in
+    let stopped : c.from_residual-in_err-write_texts-in-Ok-Last.result ≡ Err no_output = search rules in
     rw stopped (stops_short going c.args.limit _ piece (has_last going c.args.limit _ piece cut) _ _
     (rw c.deref-in-Ok-Last.ensures.value at c.in_ok-report-in-Ok-Last.ensures.ok) _
     (rw c.deref-in-Ok-Last-2.ensures.value at c.in_err-write_texts-in-Ok-Last.ensures.err) text means)
@@ -104,9 +104,9 @@ returns-in-Ok-Last-clause-err g c =
 pub returns-in-Err-clause-err : goal.returns-in-Err-clause-err
 returns-in-Err-clause-err g c = λ text means.
     let cut = rw c.in-Err.is at c.loop-count.invariant.3 in
-    rw (c.from-in-Err.ensures, c.at_row.ensures, c.whole.ensures, c.from.ensures) (cut_stops c.loop-count.invariant.2 c.args.limit (g.R.Read.remaining c.loop-count.reader)
+    rw c.of.ensures (cut_stops c.loop-count.invariant.2 c.args.limit (g.R.Read.remaining c.loop-count.reader)
     c.loop-count.held.items c.in-Err.fault cut text means)
 
 pub returns-clause-err : goal.returns-clause-err
-returns-clause-err g c = λ text means. rw (c.from-2.ensures, c.at_row-2.ensures, c.whole-2.ensures) (no_turn c.loop-count.invariant.2 c.args.limit
+returns-clause-err g c = λ text means. rw (c.at_row.ensures, c.whole.ensures) (no_turn c.loop-count.invariant.2 c.args.limit
     (g.R.Read.remaining c.loop-count.reader) (omega arith) text means)

@@ -1,4 +1,4 @@
-use Rattle.std.proofs.Common.{◌≡◌, ◌∙◌, ℕ, List, length, map, ap, sym, subst, Ok}
+use Rattle.std.proofs.Common.{◌≡◌, ◌∙◌, ℕ, List, length, map, ap, inl, inr, refl, sym, subst, Ok}
 use Rattle.std.proofs.KnownBytes.{Keeps-refl}
 use Rattle.std.proofs.lemmas.List.{length-map}
 use Rattle.std.proofs.lemmas.Result.{err_from_is_err_and}
@@ -10,7 +10,7 @@ use Rattle.pmp_audit.specs.Rounds.{decision_for}
 use Rattle.pmp_audit.specs.SharedAudit.{AreFaultless, SharedAuditRefuses}
 use Rattle.pmp_audit.specs.TraceAudit.{AuditSays}
 use Rattle.pmp_audit.proofs.DecidedRows.{are_decided}
-use Rattle.pmp_audit.proofs.FaultyInputs.{trace_refused}
+use Rattle.pmp_audit.proofs.FaultyInputs.{input_refused}
 use Rattle.pmp_audit.proofs.Reports.{audit_says, report_says}
 use Rattle.pmp_audit.proofs.Stopping.{refused_so}
 use Rattle.pmp_audit.proofs.WrittenAnswers.{answered, refused}
@@ -44,14 +44,14 @@ returns-clause-ok g c = λ text means.
 pub returns-clause-err : goal.returns-clause-err
 returns-clause-err g c = λ text means.
     refused _ _ _ _ _ (says g (goal.at.returns-clause-err g c).After-write_answer text means)
-    (SharedAuditRefuses text c.args.trace.now) (λ never. never) tt _ c.write_answer.ensures.err
+    (SharedAuditRefuses text c.args.trace.now) tt _ c.write_answer.ensures.err
 
 pub returns-in_err-rows-clause-err : goal.returns-in_err-rows-clause-err
 returns-in_err-rows-clause-err g c = λ text means.
     let p = err_from_is_err_and c.from_residual.result c.from_residual.ensures.1 in
     let script = c.args.script.now in
-    rw (p.1, p.2) (trace_refused (AuditSays text c.args.trace.now) _ (SharedAuditRefuses text c.args.trace.now)
-    c.in_err-rows.field-0.0 _ (λ why. record { contents = script; script_means = means; trace_means = why })
+    rw (p.1, p.2) (input_refused (AuditSays text c.args.trace.now) _ (SharedAuditRefuses text c.args.trace.now)
+    c.in_err-rows.field-0.0 (λ why. inl (inr record { contents = script; script_means = means; trace_means = why }))
     (rw c.moments.ensures at c.in_err-rows.ensures.given))
 
 pub returns-in_err-decisions-clause-err : goal.returns-in_err-decisions-clause-err
@@ -70,4 +70,4 @@ pub returns-in_err-faults-clause-err : goal.returns-in_err-faults-clause-err
 returns-in_err-faults-clause-err g c = λ text means.
     let exit = c.from_residual-in_err-faults in
     let p = err_from_is_err_and exit.result exit.ensures.1 in
-    rw (p.1, p.2) (Keeps-refl _)
+    rw (p.1, p.2) (inr (inl refl, Keeps-refl _))

@@ -13,4 +13,4 @@ pub returns-clause-err : goal.returns-clause-err
 returns-clause-err g c =
     refused_rows (ListingSays Runs c.args.script.now c.args.after) _ _ _ _ _ _ (FileRefuses c.args.script.now c.args.after) _
     c.write_answer.ensures.err c.add_listing-made.ensures.ok c.new-text.ensures.items c.deref.ensures.value
-    c.add_listing-made.ensures.err (λ never. never)
+    c.add_listing-made.ensures.err

@@ -1,4 +1,4 @@
-use Rattle.std.proofs.Common.{arith}
+use Rattle.std.proofs.Common.{arith, inl, refl}
 use Rattle.std.proofs.lemmas.Result.{err_from_is_err_and}
 use Rattle.pmp_audit.specs.LongParts.{items_of}
 use Rattle.pmp_audit.proofs.WholeAudits.{fails, no_header, says, too_long}
@@ -6,7 +6,7 @@ use Rattle.pmp_audit.proofs.trace_audit.audit_trace.Goals as goal
 
 pub returns-then-trace-gt-MAX_TRACE-clause-err : goal.returns-then-trace-gt-MAX_TRACE-clause-err
 returns-then-trace-gt-MAX_TRACE-clause-err g c = λ text means.
-    rw (c.from.ensures, c.at_row.ensures, c.whole.ensures)
+    rw (c.at_row.ensures, c.whole.ensures)
     (too_long text c.args.trace.now c.args.script.now means (omega arith)
     (g.W.Write.contents c.args.writer.now))
 
@@ -30,14 +30,17 @@ returns-in_err-write_texts-clause-err g c = λ text means.
     let p = err_from_is_err_and c.from_residual-in_err-write_texts.result
     c.from_residual-in_err-write_texts.ensures.1 in
     let (begun, is) = c.in_ok-summary.ensures in
-    rw (p.1, p.2) (record {
-      answer = c.in_ok-summary.summary;
-      text = items_of c.in_ok-report.report.texts.items;
-      says = says text c.args.trace.now c.args.script.now means (omega arith)
-          c.in_ok-report.report.behind _ (rw c.beginning.ensures at c.in_ok-report.ensures.ok) c.in_ok-summary.summary
-          begun is;
-      front = rw c.deref.ensures.value at c.in_err-write_texts.ensures.err;
-    })
+    rw (p.1, p.2) (inl (
+      refl,
+      record {
+        answer = c.in_ok-summary.summary;
+        text = items_of c.in_ok-report.report.texts.items;
+        says = says text c.args.trace.now c.args.script.now means (omega arith)
+            c.in_ok-report.report.behind _ (rw c.beginning.ensures at c.in_ok-report.ensures.ok) c.in_ok-summary.summary
+            begun is;
+        front = rw c.deref.ensures.value at c.in_err-write_texts.ensures.err;
+      },
+    ))
 
 pub returns-clause-ok : goal.returns-clause-ok
 returns-clause-ok g c = λ text means.

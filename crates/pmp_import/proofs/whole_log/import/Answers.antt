@@ -6,10 +6,11 @@ use Rattle.pmp_import.specs.Steps.{StopsAtEnd}
 use Rattle.pmp_import.proofs.WholeLogs.{cant_begin, cant_write, cant_write_last, ends_well, going_begins, goes_on, stops_at}
 use Rattle.pmp_import.proofs.WholeLogs.{stops_at_count, stops_at_cut, stops_at_end, stops_at_last}
 use Rattle.pmp_import.proofs.whole_log.import.Goals as goal
+use Rattle.pmp_text.specs.Outcomes as outcome
 
 pub returns-in_err-begin-clause-err : goal.returns-in_err-begin-clause-err
 returns-in_err-begin-clause-err g c =
-    let stopped : c.from_residual.result ≡ Err (at 0 Memory) = search rules in
+    let stopped : c.from_residual.result ≡ Err outcome.no_memory = search rules in
     rw stopped (cant_begin c.args.given _ _)
 
 pub loop-count-init : goal.loop-count-init
@@ -38,7 +39,7 @@ returns-in_err-write_out-in-Ok-Front-clause-err g c =
     let cut = rw c.in-Ok-Front.field-0-is at c.in-Ok-Front.ensures in
     let reads = rw (same, c.deref.ensures.value) at c.in_ok-take_lines-in-Ok-Front.ensures.ok in
     let wrote = rw c.deref-in-Ok-Front.ensures.value at c.in_err-write_out-in-Ok-Front.ensures.err in
-    let stopped : c.from_residual-in_err-write_out-in-Ok-Front.result ≡ Err (at 0 Output) = search rules in
+    let stopped : c.from_residual-in_err-write_out-in-Ok-Front.result ≡ Err outcome.no_output = search rules in
     rw stopped (cant_write going c.in-Ok-Front.piece.items cut _ reads wrote)
 
 pub loop-count-preserved : goal.loop-count-preserved
@@ -82,7 +83,7 @@ returns-in_err-write_out-in-Ok-Last-clause-err g c =
     let given : c.take_lines-in-Ok-Last.new.self.given ≡ c.args.given = c.take_lines-in-Ok-Last.ensures.given ∙ same in
     let end = rw given at c.in_ok-end-in-Ok-Last.ensures.ok in
     let wrote = rw c.deref-in-Ok-Last-2.ensures.value at c.in_err-write_out-in-Ok-Last.ensures.err in
-    let stopped : c.from_residual-in_err-write_out-in-Ok-Last.result ≡ Err (at 0 Output) = search rules in
+    let stopped : c.from_residual-in_err-write_out-in-Ok-Last.result ≡ Err outcome.no_output = search rules in
     rw stopped (cant_write_last going c.in-Ok-Last.piece.items cut reads _ end wrote)
 
 pub returns-in-Ok-Last-clause-ok : goal.returns-in-Ok-Last-clause-ok
@@ -98,8 +99,8 @@ returns-in-Ok-Last-clause-ok g c =
 -- ---- no lines
 
 pub returns-in-Err-clause-err : goal.returns-in-Err-clause-err
-returns-in-Err-clause-err g c = rw (c.stop.ensures, c.from.ensures) (stops_at_cut c.loop-count.invariant.0
+returns-in-Err-clause-err g c = rw c.stop.ensures (stops_at_cut c.loop-count.invariant.0
     (g.R.Read.remaining c.cut_lines.new.reader) c.in-Err.fault c.cut_lines.new.held.items c.in-Err.ensures)
 
 pub returns-clause-err : goal.returns-clause-err
-returns-clause-err g c = rw c.stop-2.ensures (stops_at_count c.loop-count.invariant.0 (omega arith))
+returns-clause-err g c = rw c.at.ensures (stops_at_count c.loop-count.invariant.0 (omega arith))

@@ -45,8 +45,8 @@ returns-in-Ok-Last-clause-ok g c =
 -- ---- no lines
 
 pub returns-in-Err-clause-err : goal.returns-in-Err-clause-err
-returns-in-Err-clause-err g c = rw (c.stop.ensures, c.from.ensures) (cut_fault c.loop-count.invariant
+returns-in-Err-clause-err g c = rw c.stop.ensures (cut_fault c.loop-count.invariant
     (g.R.Read.remaining c.cut_lines.new.reader) c.in-Err.fault c.cut_lines.new.held.items c.in-Err.ensures)
 
 pub returns-clause-err : goal.returns-clause-err
-returns-clause-err g c = rw c.stop-2.ensures (count_fault c.loop-count.invariant (omega arith))
+returns-clause-err g c = rw c.at.ensures (count_fault c.loop-count.invariant (omega arith))

@@ -22,5 +22,4 @@ returns-clause-ok c = IfOk-weaker c.told.result _ _ (λ text told. record {
 
 pub returns-clause-err : goal.returns-clause-err
 returns-clause-err c = IfErr-weaker c.told.result _ _ (λ fault untold.
-    let (why, is, refuses) = rw c.deref.ensures.value at untold in
-    rw is (no_writes c.in_ok-rows.rows.items why c.in_ok-rows.ensures.ok refuses)) c.told.ensures.err
+    no_writes c.in_ok-rows.rows.items fault c.in_ok-rows.ensures.ok (rw c.deref.ensures.value at untold)) c.told.ensures.err

@@ -18,7 +18,7 @@ returns-in_default-clause-err c =
     let planned = c.in_ok-planned.planned in
     let made = rw (c.hart.ensures, c.lasting.ensures) at c.in_ok-planned.ensures.made in
     inr (
-      refl,
+      c.from.ensures,
       record {
         sound = rw (c.hart.ensures, c.lasting.ensures) at c.in_ok-planned.ensures.sound;
         unmet = λ met. false≢true (c.if-leads.ensures.no (leads_at_once start aim rows met));

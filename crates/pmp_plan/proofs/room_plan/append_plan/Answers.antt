@@ -1,7 +1,7 @@
-use Rattle.std.proofs.Common.{◌∙◌, ap, arith, inl, sym, List, Ok, map}
+use Rattle.std.proofs.Common.{◌∙◌, ap, arith, inl, inr, refl, sym, List, Ok, map}
 use Rattle.pmp_plan.specs.KeptRows.{said}
 use Rattle.pmp_plan.specs.PlanRooms.{long, no_rows, no_script}
-use Rattle.pmp_plan.specs.declared.fault.PlanFault.TheVariants.{Memory}
+use Rattle.pmp_text.specs.Outcomes.{no_memory}
 use Rattle.pmp_plan.specs.declared.plan_row.PlanRow.{PlanRow}
 use Rattle.pmp_plan.proofs.Exits.{err_returned}
 use Rattle.pmp_plan.proofs.room_plan.append_plan.Goals as goal
@@ -19,9 +19,9 @@ returns-in_err-writes-clause-err g c =
     let are = c.in_ok-read_plan_to.ensures.ok ∙ ap (λ (rows : List PlanRow). Ok (map said rows)) (sym c.rows.ensures) in
     err_returned _ _ c.from_residual-in_err-writes.ensures.1
     (no_script c.rows.result.now _ are
-    (rw (c.reset_on-start.ensures, c.plain-aim.ensures) at c.in_err-writes.ensures.err))
+    (inr (rw (c.reset_on-start.ensures, c.plain-aim.ensures) at c.in_err-writes.ensures.err)))
 
 pub returns-in_err-append_script-clause-err : goal.returns-in_err-append_script-clause-err
 returns-in_err-append_script-clause-err g c =
     let are = c.in_ok-read_plan_to.ensures.ok ∙ ap (λ (rows : List PlanRow). Ok (map said rows)) (sym c.rows.ensures) in
-    err_returned _ _ c.from_residual-in_err-append_script.ensures.1 (no_script c.rows.result.now Memory are (inl tt))
+    err_returned _ _ c.from_residual-in_err-append_script.ensures.1 (no_script c.rows.result.now no_memory are (inl refl))

@@ -1,29 +1,22 @@
-use Rattle.std.proofs.Common.{◌≡◌, ◌∙◌, ap, ℕ, Some, List, length, refl, subst}
+use Rattle.std.proofs.Common.{inl, length, refl, subst}
 use Rattle.std.proofs.lemmas.List.Elements.{All-more}
 use Rattle.std.proofs.lemmas.Option.{slice_get_read}
-use Rattle.std.specs.Prelude.{slice_get}
-use Rattle.pmp_core.specs.declared.hart.Profile.{Profile}
-use Rattle.pmp_plan.specs.declared.fault.PlanFault.{PlanFault}
-use Rattle.pmp_plan.specs.declared.fault.PlanFault.TheVariants.{TooFine, PastEnd}
 use Rattle.pmp_plan.specs.declared.plan_row.PlanRow.{PlanRow}
-use Rattle.pmp_plan.specs.declared.security.Security.{Security}
-use Rattle.pmp_plan.specs.PlanFaults.{IsFit, IsFlawOf, Refuses}
+use Rattle.pmp_plan.specs.PlanFaults.{IsFit, of_row, overlap}
 use Rattle.pmp_plan.proofs.row_faults.check_rows.Goals as goal
 
--- what is wrong with one row is a fault of all
-refused : (hart : Profile) (security : Security) (rows : List PlanRow) (index : ℕ) (row : PlanRow) (one : PlanFault)
-    → slice_get rows index ≡ Some row → IsFlawOf hart index row one → Refuses hart security rows one
-refused hart security rows index row (TooFine number field) at flaw = (row, ap (slice_get rows) flaw.0 ∙ at, flaw.1)
-refused hart security rows index row (PastEnd number) at flaw = (row, ap (slice_get rows) flaw.0 ∙ at, flaw.1)
-refused hart security rows index row fault at flaw = absurd flaw
+pub returns-in-Some-clause-err : goal.returns-in-Some-clause-err
+returns-in-Some-clause-err c security =
+    rw c.two_rows.ensures (overlap c.in-Some.row c.in-Some.other c.in-Some.ensures)
 
 pub returns-in-Some-flaw_of-clause-err : goal.returns-in-Some-flaw_of-clause-err
 returns-in-Some-flaw_of-clause-err c security =
     let rows = c.args.rows.now in
     let row = c.index-rows-index in
     let index = c.loop-index.index in
-    refused c.args.hart security rows index row.result c.in-Some-flaw_of.fault
-    (slice_get_read rows (length rows) index row.result refl c.loop-index-test.true row.is) (c.in-Some-flaw_of.ensures)
+    rw c.in_row.ensures (of_row index row.result c.in-Some-flaw_of.flaw
+    (slice_get_read rows (length rows) index row.result refl c.loop-index-test.true row.is)
+    (inl c.in-Some-flaw_of.ensures))
 
 pub loop-index-preserved : goal.loop-index-preserved
 loop-index-preserved c =

@@ -10,5 +10,5 @@ returns-in-Ok-clause-err g c =
 
 pub returns-in-Err-clause-err : goal.returns-in-Err-clause-err
 returns-in-Err-clause-err g c =
-    rw (c.unscripted.ensures, c.unread.ensures, c.old_side.ensures, c.listed_at.ensures)
+    rw (c.unscripted.ensures, c.unread.ensures, c.script_source.ensures, c.listed_at.ensures)
     (no_script c.in-Err.refusal c.in-Err.ensures.unread)

@@ -38,7 +38,7 @@ returns-in_default-clause-ok g c =
         asks = sym c.in_ok-request.ensures;
       };
       done = done;
-    }) (rw c.work_with.ensures.names at c.answer_request.ensures.ok)
+    }) (rw (c.work_with.ensures.names, c.work_with.ensures.form) at c.answer_request.ensures.ok)
 
 pub returns-in_default-clause-err : goal.returns-in_default-clause-err
 returns-in_default-clause-err g c =
@@ -49,7 +49,7 @@ returns-in_default-clause-err g c =
       at = sym (rw c.in_default.is at c.in_ok-path.ensures);
       are = refl;
       asks = sym c.in_ok-request.ensures;
-    }) undone_is) (rw c.work_with.ensures.names at c.answer_request.ensures.err)
+    }) undone_is) (rw (c.work_with.ensures.names, c.work_with.ensures.form) at c.answer_request.ensures.err)
 
 pub returns-in_err-text-clause-err : goal.returns-in_err-text-clause-err
 returns-in_err-text-clause-err g c =
@@ -102,6 +102,7 @@ returns-clause-ok g c =
       c.forget.ensures.paths,
       c.in_ok-text.ensures.paths,
       c.work_with-work.ensures.names,
+      c.work_with-work.ensures.form,
       c.names_of.ensures,
       c.deref-3.ensures.value,
     ) at c.answer_request-2.ensures.ok)
@@ -124,6 +125,7 @@ returns-clause-err g c =
       c.forget.ensures.paths,
       c.in_ok-text.ensures.paths,
       c.work_with-work.ensures.names,
+      c.work_with-work.ensures.form,
       c.names_of.ensures,
       c.deref-3.ensures.value,
     ) at c.answer_request-2.ensures.err)

@@ -15,5 +15,5 @@ returns-in_err-implemented_plan-clause-err g c =
     rw (p.1, p.2) (read_input c.in_ok-script.script.items _ c.in_ok-script.ensures.read (record {
       fault = c.in_err-implemented_plan.field-0.0;
       is = refl;
-      fails = rw c.deref.ensures.value at c.in_err-implemented_plan.ensures.err;
+      declined = rw c.deref.ensures.value at c.in_err-implemented_plan.ensures.err;
     }))

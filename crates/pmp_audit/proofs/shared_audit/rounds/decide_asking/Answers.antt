@@ -1,5 +1,5 @@
 use Rattle.std.proofs.lemmas.Result.{err_from_is_err_and}
-use Rattle.std.proofs.Common.{◌≡◌, ◌∙◌, ℕ, List, [], length, take, drop, sym, ap, ◌-◌, ◌≤◌, arith}
+use Rattle.std.proofs.Common.{◌≡◌, ◌∙◌, ℕ, List, [], inl, refl, length, take, drop, sym, ap, ◌-◌, ◌≤◌, arith}
 use Rattle.std.specs.Prelude.{Any}
 use Rattle.std.proofs.lemmas.Bool.{false≢true}
 use Rattle.std.proofs.lemmas.List.{length-drop, take_all}
@@ -22,7 +22,7 @@ pub returns-in_err-idle-clause-err : goal.returns-in_err-idle-clause-err
 returns-in_err-idle-clause-err g c =
     let p = err_from_is_err_and c.from_residual.result c.from_residual.ensures.1 in
     rw (p.1, p.2) (
-      tt,
+      inl refl,
       asked c.args.after c.len.result c.args.rows.now c.asking-next.result.now (omega arith)
           c.asking-next.ensures (λ none. false≢true (sym c.if-is_empty.false ∙ rw none at c.is_empty.ensures)),
     )
@@ -40,7 +40,7 @@ pub returns-in_err-append-clause-err : goal.returns-in_err-append-clause-err
 returns-in_err-append-clause-err g c =
     let p = err_from_is_err_and c.from_residual-in_err-append.result c.from_residual-in_err-append.ensures.1 in
     rw (p.1, p.2) (
-      tt,
+      inl refl,
       asked c.args.after c.len.result c.args.rows.now c.asking-next.result.now (omega arith)
           c.asking-next.ensures (λ none. false≢true (sym c.if-is_empty.false ∙ rw none at c.is_empty.ensures)),
     )

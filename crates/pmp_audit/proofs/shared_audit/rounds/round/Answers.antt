@@ -2,6 +2,7 @@ use Rattle.std.proofs.Common.{◌≡◌, ◌+◌, arith, inl, inr, length, rules
 use Rattle.std.proofs.lemmas.List.{length-map}
 use Rattle.pmp_share.specs.Batches.{file_from}
 use Rattle.pmp_audit.proofs.Merging.{all_dealt_out, all_checkers, stopped}
+use Rattle.pmp_audit.proofs.Stopping.{unit_stops}
 use Rattle.pmp_audit.specs.Rounds.{AreDealt}
 use Rattle.pmp_audit.specs.Working.{StopsRound, decided_in}
 use Rattle.pmp_audit.proofs.shared_audit.rounds.round.Goals as goal
@@ -15,8 +16,8 @@ dealt g c =
     let first : c.len.result + 1 ≡ length c.args.decided.now.items + 1 =
     omega (arith, c.len.ensures, c.args.decided.now.ok.0) in
     rw (← first) (all_dealt_out c.args.publisher.now (length c.args.checkers.items) (c.len.result + 1)
-    c.args.rows.now c.in_ok-jobs.jobs.items c.in_ok-results.results.items c.in_ok-all.all.items
-    c.in_ok-jobs.ensures.jobs c.in_ok-all.ensures.done c.in_ok-results.ensures)
+    c.args.rows.now c.in-Ok.jobs.items c.in_ok-results.results.items c.in_ok-all.all.items
+    c.in-Ok.ensures.jobs c.in_ok-all.ensures.done c.in_ok-results.ensures)
 
 pub merge-requires-clause-dealt : goal.merge-requires-clause-dealt
 merge-requires-clause-dealt g c = (
@@ -28,7 +29,7 @@ merge-requires-clause-dealt g c = (
 pub returns-clause-ok : goal.returns-clause-ok
 returns-clause-ok g c = (
   all_checkers c.args.publisher.now (length c.args.checkers.items) (c.len.result + 1) c.args.rows.now
-      c.in_ok-jobs.jobs.items c.in_ok-results.results.items c.in_ok-all.all.items c.in_ok-jobs.ensures.jobs
+      c.in-Ok.jobs.items c.in_ok-results.results.items c.in_ok-all.all.items c.in-Ok.ensures.jobs
       c.in_ok-all.ensures.done c.in_ok-results.ensures c.in_ok-checkers_of.field-0.items c.in_ok-checkers_of.ensures,
   c.in_ok-merge.ensures _ (length-map c.args.rows.now _)
       (rw c.deref.ensures.value (dealt g (goal.at.returns-clause-ok g c).After-deref)),
@@ -39,8 +40,11 @@ returns-in_err-all-clause-err g c =
     let why : StopsRound c.args.publisher.now.published c.in_err-all.field-0.0 = elim c.in_err-all.ensures.refused [
       | inl found ↦
           stopped c.args.publisher.now (length c.args.checkers.items) (c.len.result + 1) c.args.rows.now
-          c.in_ok-jobs.jobs.items c.in_ok-results.results.items c.in_err-all.field-0.0 c.in_ok-jobs.ensures.jobs
+          c.in-Ok.jobs.items c.in_ok-results.results.items c.in_err-all.field-0.0 c.in-Ok.ensures.jobs
           c.in_ok-results.ensures found
-      | inr memory ↦ rw memory tt
+      | inr memory ↦ inl memory
     ] in
     search rules
+
+pub returns-in-Err-clause-err : goal.returns-in-Err-clause-err
+returns-in-Err-clause-err g c = rw c.fault_of_share.ensures (unit_stops _ c.in-Err.fault c.in-Err.ensures.refused)

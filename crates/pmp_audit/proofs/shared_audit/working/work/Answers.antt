@@ -32,15 +32,15 @@ loop-place-preserved g c =
     let rows = c.args.rows.now in
     let numbered = enumerate_from c.args.first (decided_in c.file-file.result rows) in
     let turns = length at.decisions.items in
-    let own = at_place c.args.first c.file-file.result rows at.place c.index-rows-place.result c.in_ok-decision.decision
-    c.loop-place-test.true (c.in_ok-decision.ensures.decided
+    let own = at_place c.args.first c.file-file.result rows at.place c.index-rows-place.result c.in-Ok.decision
+    c.loop-place-test.true (c.in-Ok.ensures.decided
     ∙ ap (λ (row : TraceRow). decision_of c.file-file.result row.access) c.index-rows-place.is) in
-    let size = length_push at.decisions.items (c.args.first + at.place, c.in_ok-decision.decision) in
+    let size = length_push at.decisions.items (c.args.first + at.place, c.in-Ok.decision) in
     let one_more : length c.push.new.self.items ≡ turns + 1 = ap (λ (l : List (ℕ × Decision)). length l)
     c.in_ok-push.ensures.items ∙ size in
     record {
       same_unit = c.ask.ensures.unit ∙ at.invariant.same_unit;
-      learnt = c.in_ok-decision.ensures.learnt;
+      learnt = c.in-Ok.ensures.learnt;
       file_is = at.invariant.file_is;
       place_is =
           let was = at.invariant.place_is in
@@ -50,7 +50,7 @@ loop-place-preserved g c =
           omega arith;
       dealt = rw (one_more, c.in_ok-push.ensures.items) (one_dealt c.args.job.worker c.args.workers numbered turns
           at.decisions.items _ at.invariant.dealt (ap (slice_get numbered) (sym at.invariant.place_is) ∙ own));
-      asked = λ _. c.in_ok-decision.ensures.asked;
+      asked = λ _. c.in-Ok.ensures.asked;
       count_is = at.invariant.count_is;
     }
 

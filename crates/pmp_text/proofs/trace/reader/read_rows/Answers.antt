@@ -22,7 +22,7 @@ loop-rows-preserved c =
 pub returns-in_err-push : goal.returns-in_err-push
 returns-in_err-push c =
     let p = err_from_is_err_and c.from_residual-in_err-push.result c.from_residual-in_err-push.ensures.1 in
-    rw (p.1, p.2) (inr (inl refl))
+    rw (p.1, p.2) (inr refl)
 
 pub returns : goal.returns
 returns c =

@@ -2,9 +2,9 @@ use Rattle.std.proofs.Common.{◌∙◌, ℕ, List, [], Result, Ok, Err, Vec, Gl
 use Rattle.std.specs.Prelude.{IfOk}
 use Rattle.std.proofs.lemmas.Result.{err_from_is_err_and}
 use Rattle.pmp_text.specs.declared.trace.TraceRow.{TraceRow}
-use Rattle.pmp_text.specs.declared.trace.RowFault.{RowFault}
+use Rattle.pmp_text.specs.declared.fault.Fault.{Fault}
 use Rattle.pmp_text.specs.Moments.{KnownMoments}
-use Rattle.pmp_text.specs.Outcomes.{GivesRows}
+use Rattle.pmp_text.specs.Outcomes.{Gives}
 use Rattle.pmp_text.specs.Tables.{records_of}
 use Rattle.pmp_text.specs.TraceFaults.{IsInOrder, afters}
 use Rattle.pmp_text.specs.Traces.{is_header, row_fields, rows_meaning, trace_meaning}
@@ -12,11 +12,12 @@ use Rattle.pmp_text.proofs.LeastRows.{trace_in_order}
 use Rattle.pmp_text.proofs.Rows.{long_text, trace_is}
 use Rattle.pmp_text.proofs.WholeTraces.{behind_header, few_rows, not_opened, without_header}
 use Rattle.pmp_text.proofs.trace.reader.read_trace_by.Goals as goal
+use Rattle.pmp_text.specs.declared.fault.Source.TheVariants as source
 
 pub returns-then-text-gt-MAX_TRACE-clause-given : goal.returns-then-text-gt-MAX_TRACE-clause-given
 returns-then-text-gt-MAX_TRACE-clause-given c =
     rw (c.at_row.ensures, c.whole.ensures) (inl (trace_is c.args.moments.now c.args.text.now
-    ∙ long_text is_header (rows_meaning c.args.moments.now) c.args.text.now (omega arith)))
+    ∙ long_text source.Trace is_header (rows_meaning c.args.moments.now) c.args.text.now (omega arith)))
 
 pub returns-in_err-left-clause-given : goal.returns-in_err-left-clause-given
 returns-in_err-left-clause-given c =
@@ -41,8 +42,8 @@ returns-then-place-clause-given c =
     rw (behind_header c.args.moments.now c.args.text.now (omega arith) begun headed)
     (rw rows at c.read_rows.ensures)
 
-in_order : (moments : KnownMoments) (text : List ℕ) (answer : Result (Vec TraceRow Global) RowFault)
-    → GivesRows (λ rows. map row_fields rows.items) answer (trace_meaning moments text)
+in_order : (moments : KnownMoments) (text : List ℕ) (answer : Result (Vec TraceRow Global) Fault)
+    → Gives (λ rows. map row_fields rows.items) answer (trace_meaning moments text)
     → IfOk answer (λ rows. IsInOrder moments.publications 0 (afters (map row_fields rows.items)))
 in_order moments text (Ok rows) given = trace_in_order moments _ text given
 in_order moments text (Err fault) given = tt

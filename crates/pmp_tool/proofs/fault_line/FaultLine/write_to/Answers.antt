@@ -10,7 +10,7 @@ returns g c =
     let wrote =
     at_ok c.writeln.result
     (sym c.map_err.ensures.variant ∙ ap is_ok c.in_ok-map_err.was) c.writeln.ensures.writes in
-    let line : c.as_bytes.result.now ≡ line_text c.args.self.now.refusal c.args.self.now.place =
+    let line : c.as_bytes.result.now ≡ line_text c.args.self.now.fault =
     c.as_bytes.ensures.value ∙ c.as_str.ensures.value
     ∙ string_written LONGEST_LINE c.new-line.result c.writeln.new.self _ c.new-line.ensures wrote in
     rw line at c.write_out.ensures

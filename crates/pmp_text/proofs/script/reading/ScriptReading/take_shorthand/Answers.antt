@@ -8,7 +8,7 @@ use Rattle.pmp_text.specs.Steps.Progress.{after_lines}
 use Rattle.pmp_text.specs.Steps.Reading.{reading_of}
 use Rattle.pmp_text.specs.Steps.Views.{seen_line}
 use Rattle.pmp_text.specs.declared.flaw.Flaw.{Flaw}
-use Rattle.pmp_text.specs.declared.script.LineFault.{LineFault}
+use Rattle.pmp_text.specs.declared.fault.Fault.{Fault}
 use Rattle.pmp_text.specs.declared.script.shorthand.Writes.{Writes}
 use Rattle.pmp_text.specs.declared.script.version.Version.TheVariants.{Headed}
 use Rattle.pmp_text.proofs.Longhands.{all_read, refused_in_place}
@@ -21,7 +21,7 @@ returns-in-Err-clause-taken g c =
     inl ((λ i. after_lines Headed here (written_out line (and_then c.args.says (writes_of (sym c.file_here-file.ensures i)))))
     ∙ ap (λ (writes : Result Writes Flaw). after_lines Headed here (written_out line writes)) (sym c.writes.ensures ∙ c.in-Err.is)
     ∙ refused_in_place here line c.in-Err.flaw
-    ∙ ap (λ (fault : LineFault). Err fault) (sym c.at_line.ensures))
+    ∙ ap (λ (fault : Fault). Err fault) (sym c.at_line.ensures))
 
 pub take_writes-requires : goal.take_writes-requires
 take_writes-requires g c = record {
