@@ -231,23 +231,18 @@ fn range_of(alloc: Global, columns: &[Column], row: &AnswerRow) -> Result<Vec<u8
 }
 
 /// Appends the remedy of what is found, its entry, its bytes and its modes.
-fn append_finding(
-    alloc: Global,
-    out: &mut Vec<u8>,
-    columns: &[Column],
-    row: &AnswerRow,
-) -> Result<(), AllocError>
+fn append_finding(out: &mut Vec<u8>, columns: &[Column], row: &AnswerRow) -> Result<(), AllocError>
     ensures { OnOk result
         (out.new.items ≡ out.old.items ++ finding_text (map column_value columns.now) row.now.cells) }
 {
-    if let Some(finding) = finding_under(alloc, columns, row)? {
+    if let Some(finding) = finding_under(*out.allocator(), columns, row)? {
         out.extend_from_slice(finding.remedy().as_bytes())?;
     }
-    let entry = text_under(alloc, "entry", columns, row)?;
+    let entry = text_under(*out.allocator(), "entry", columns, row)?;
     append_between(out, b" Entry ", &entry, b".")?;
-    let range = range_of(alloc, columns, row)?;
+    let range = range_of(*out.allocator(), columns, row)?;
     out.extend_from_slice(&range)?;
-    let modes = text_under(alloc, "modes", columns, row)?;
+    let modes = text_under(*out.allocator(), "modes", columns, row)?;
     append_between(out, b" Modes ", &modes, b".")
 }
 
@@ -299,7 +294,7 @@ fn finding_case(
     title.push(b':')?;
     append_under(&mut title, "line", columns, row)?;
     let mut message = Vec::new(alloc);
-    append_finding(alloc, &mut message, columns, row)?;
+    append_finding(&mut message, columns, row)?;
     Ok(Case {
         outcome: Outcome::Failed,
         finding: finding_under(alloc, columns, row)?,

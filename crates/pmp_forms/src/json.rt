@@ -15,11 +15,11 @@ use pmp_text::{AnswerRow, Cell, Column};
 use serde_json::Value;
 use std::alloc::{AllocError, Global};
 
-fn append_value(alloc: Global, out: &mut Vec<u8>, value: &Value) -> Result<(), AllocError>
+fn append_value(out: &mut Vec<u8>, value: &Value) -> Result<(), AllocError>
     requires { has_float (view value.now) ≡ false }
     ensures { OnOk result (out.new.items ≡ out.old.items ++ compact_text (view value.now)) }
 {
-    let text = value.to_string(alloc)?;
+    let text = value.to_string(*out.allocator())?;
     Ok(out.extend_from_slice(text.as_bytes())?)
 }
 
@@ -40,7 +40,6 @@ fn datum(alloc: Global, column: Column, cell: &Cell<Vec<u8>>) -> Result<Value, A
 
 /// Appends a member, behind others or not.
 fn append_member(
-    alloc: Global,
     out: &mut Vec<u8>,
     is_behind: bool,
     column: Column,
@@ -53,16 +52,15 @@ fn append_member(
     if is_behind {
         out.push(b',')?;
     }
-    let name = Value::String(String::from_str(alloc, column.name())?);
-    append_value(alloc, out, &name)?;
+    let name = Value::String(String::from_str(*out.allocator(), column.name())?);
+    append_value(out, &name)?;
     out.push(b':')?;
-    let value = datum(alloc, column, cell)?;
-    append_value(alloc, out, &value)
+    let value = datum(*out.allocator(), column, cell)?;
+    append_value(out, &value)
 }
 
 /// Appends the cells under the names of their columns, and `}`.
 fn append_members(
-    alloc: Global,
     out: &mut Vec<u8>,
     columns: &[Column],
     cells: &[Cell<Vec<u8>>],
@@ -77,7 +75,7 @@ fn append_members(
         let Some((cell, other_cells)) = rest.split_first() else {
             return Ok(out.push(b'}')?);
         };
-        append_member(alloc, out, is_behind, *column, cell)?;
+        append_member(out, is_behind, *column, cell)?;
         is_behind = true;
         heads = other_heads;
         rest = other_cells;
@@ -85,31 +83,21 @@ fn append_members(
     Ok(out.push(b'}')?)
 }
 
-fn append_row(
-    alloc: Global,
-    out: &mut Vec<u8>,
-    table: Table,
-    row: &AnswerRow,
-) -> Result<(), AllocError>
+fn append_row(out: &mut Vec<u8>, table: Table, row: &AnswerRow) -> Result<(), AllocError>
     ensures { OnOk result (out.new.items ≡ out.old.items ++ row_object table row.now) }
 {
-    let columns = table.columns(alloc, row.kind())?;
+    let columns = table.columns(*out.allocator(), row.kind())?;
     out.push(b'{')?;
-    append_members(alloc, out, &columns, row.cells())
+    append_members(out, &columns, row.cells())
 }
 
 /// Appends rows, each after a comma and LF.
-fn append_others(
-    alloc: Global,
-    out: &mut Vec<u8>,
-    table: Table,
-    rows: &[AnswerRow],
-) -> Result<(), AllocError>
+fn append_others(out: &mut Vec<u8>, table: Table, rows: &[AnswerRow]) -> Result<(), AllocError>
     ensures { OnOk result (out.new.items ≡ out.old.items ++ flat_map (object_after table) rows.now) }
 {
     for row in rows {
         out.extend_from_slice(b",\n")?;
-        append_row(alloc, out, table, row)?;
+        append_row(out, table, row)?;
     }
     Ok(())
 }
@@ -118,20 +106,15 @@ fn append_others(
 ///
 /// The members are the cells under their columns' names, in order: in a column of numbers a number, or null if the cell
 /// has none, and otherwise a string. The only error is that memory runs out; then a part may have been appended.
-pub fn append_json(
-    alloc: Global,
-    out: &mut Vec<u8>,
-    table: Table,
-    rows: &[AnswerRow],
-) -> Result<(), AllocError>
+pub fn append_json(out: &mut Vec<u8>, table: Table, rows: &[AnswerRow]) -> Result<(), AllocError>
     ensures { OnOk result (out.new.items ≡ out.old.items ++ json_text table rows.now) }
 {
     match rows.split_first() {
         None => Ok(out.extend_from_slice(b"[]\n")?),
         Some((first, others)) => {
             out.extend_from_slice(b"[\n")?;
-            append_row(alloc, out, table, first)?;
-            append_others(alloc, out, table, others)?;
+            append_row(out, table, first)?;
+            append_others(out, table, others)?;
             Ok(out.extend_from_slice(b"\n]\n")?)
         }
     }

@@ -51,10 +51,10 @@ fn xml(alloc: Global, text: &[u8]) -> Result<Vec<u8>, AllocError>
     Ok(all)
 }
 
-fn append_failure(alloc: Global, out: &mut Vec<u8>, message: &[u8]) -> Result<(), AllocError>
+fn append_failure(out: &mut Vec<u8>, message: &[u8]) -> Result<(), AllocError>
     ensures { OnOk result (out.new.items ≡ out.old.items ++ failure_text message.now) }
 {
-    let message = xml(alloc, message)?;
+    let message = xml(*out.allocator(), message)?;
     append_all(
         out,
         &[
@@ -65,23 +65,23 @@ fn append_failure(alloc: Global, out: &mut Vec<u8>, message: &[u8]) -> Result<()
     )
 }
 
-fn append_ending(alloc: Global, out: &mut Vec<u8>, case: &Case) -> Result<(), AllocError>
+fn append_ending(out: &mut Vec<u8>, case: &Case) -> Result<(), AllocError>
     ensures { OnOk result (out.new.items ≡ out.old.items ++ ending (case_said case.now)) }
 {
     match case.outcome {
         Outcome::Passed => Ok(out.extend_from_slice(b"/>\n")?),
-        Outcome::Failed => append_failure(alloc, out, &case.message),
+        Outcome::Failed => append_failure(out, &case.message),
         Outcome::Skipped => {
             Ok(out.extend_from_slice(b"><skipped message=\"unmet\"/></testcase>\n")?)
         }
     }
 }
 
-fn append_opening(alloc: Global, out: &mut Vec<u8>, case: &Case) -> Result<(), AllocError>
+fn append_opening(out: &mut Vec<u8>, case: &Case) -> Result<(), AllocError>
     ensures { OnOk result (out.new.items ≡ out.old.items ++ opening (case_said case.now)) }
 {
-    let path = xml(alloc, &case.path)?;
-    let title = xml(alloc, &case.title)?;
+    let path = xml(*out.allocator(), &case.path)?;
+    let title = xml(*out.allocator(), &case.title)?;
     append_all(
         out,
         &[
@@ -94,12 +94,12 @@ fn append_opening(alloc: Global, out: &mut Vec<u8>, case: &Case) -> Result<(), A
     )
 }
 
-fn append_cases(alloc: Global, out: &mut Vec<u8>, cases: &[Case]) -> Result<(), AllocError>
+fn append_cases(out: &mut Vec<u8>, cases: &[Case]) -> Result<(), AllocError>
     ensures { OnOk result (out.new.items ≡ out.old.items ++ flat_map case_text (map case_said cases.now)) }
 {
     for case in cases {
-        append_opening(alloc, out, case)?;
-        append_ending(alloc, out, case)?;
+        append_opening(out, case)?;
+        append_ending(out, case)?;
     }
     Ok(())
 }
@@ -161,15 +161,23 @@ fn suite_name(check: Check) -> &'static str
     }
 }
 
-fn append_counts(
-    out: &mut Vec<u8>,
-    name: &str,
+/// How many cases a suite has, and how many of them failed or were skipped.
+#[derive(Clone, Copy)]
+struct Counts {
     tests: usize,
     failures: usize,
     skipped: usize,
-) -> Result<(), AllocError>
-    ensures { OnOk result (out.new.items ≡ out.old.items ++ counts_text name.now tests failures skipped) }
+}
+
+fn append_counts(out: &mut Vec<u8>, name: &str, counts: Counts) -> Result<(), AllocError>
+    ensures { OnOk result (out.new.items ≡ out.old.items
+        ++ counts_text name.now counts.tests counts.failures counts.skipped) }
 {
+    let Counts {
+        tests,
+        failures,
+        skipped,
+    } = counts;
     append_line(
         out,
         format_args!(
@@ -181,22 +189,20 @@ fn append_counts(
 fn append_tag(out: &mut Vec<u8>, check: Check, cases: &[Case]) -> Result<(), AllocError>
     ensures { OnOk result (out.new.items ≡ out.old.items ++ tag_text check (map case_said cases.now)) }
 {
-    let failures = count_of(Outcome::Failed, cases);
-    let skipped = count_of(Outcome::Skipped, cases);
-    Ok(append_counts(out, suite_name(check), cases.len(), failures, skipped)?)
+    let counts = Counts {
+        tests: cases.len(),
+        failures: count_of(Outcome::Failed, cases),
+        skipped: count_of(Outcome::Skipped, cases),
+    };
+    append_counts(out, suite_name(check), counts)
 }
 
-fn append_suite(
-    alloc: Global,
-    out: &mut Vec<u8>,
-    check: Check,
-    cases: &[Case],
-) -> Result<(), AllocError>
+fn append_suite(out: &mut Vec<u8>, check: Check, cases: &[Case]) -> Result<(), AllocError>
     ensures { OnOk result (out.new.items ≡ out.old.items ++ suite_text check (map case_said cases.now)) }
 {
     out.extend_from_slice(b"<?xml version=\"1.0\" encoding=\"UTF-8\"?>\n<testsuites>\n")?;
     append_tag(out, check, cases)?;
-    append_cases(alloc, out, cases)?;
+    append_cases(out, cases)?;
     Ok(out.extend_from_slice(b"</testsuite>\n</testsuites>\n")?)
 }
 
@@ -207,13 +213,12 @@ fn append_suite(
 /// error is that memory runs out;
 /// then a part may have been appended.
 pub fn append_junit(
-    alloc: Global,
     out: &mut Vec<u8>,
     suite: Suite<'_>,
     rows: &[AnswerRow],
 ) -> Result<(), AllocError>
     ensures { OnOk result (out.new.items ≡ out.old.items ++ junit_text (suite_said suite.entry) rows.now) }
 {
-    let cases = shown(alloc, suite, rows)?;
-    append_suite(alloc, out, suite.check, &cases)
+    let cases = shown(*out.allocator(), suite, rows)?;
+    append_suite(out, suite.check, &cases)
 }

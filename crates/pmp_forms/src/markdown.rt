@@ -44,13 +44,13 @@ fn append_cell(out: &mut Vec<u8>, text: &[u8]) -> Result<(), AllocError>
     Ok(out.extend_from_slice(b" |")?)
 }
 
-fn append_line(alloc: Global, out: &mut Vec<u8>, cells: &[Cell<Vec<u8>>]) -> Result<(), AllocError>
+fn append_line(out: &mut Vec<u8>, cells: &[Cell<Vec<u8>>]) -> Result<(), AllocError>
     ensures { OnOk result (out.new.items
         ≡ out.old.items ++ line (map shown_text (map (cell_value (λ text. text.items)) cells.now))) }
 {
     out.push(b'|')?;
     for one in cells {
-        let text = shown(alloc, one)?;
+        let text = shown(*out.allocator(), one)?;
         append_cell(out, &text)?;
     }
     Ok(out.push(b'\n')?)
@@ -78,22 +78,16 @@ fn append_rule(out: &mut Vec<u8>, columns: &[Column]) -> Result<(), AllocError>
     Ok(out.push(b'\n')?)
 }
 
-fn append_head(
-    alloc: Global,
-    out: &mut Vec<u8>,
-    table: Table,
-    kind: RowKind,
-) -> Result<(), AllocError>
+fn append_head(out: &mut Vec<u8>, table: Table, kind: RowKind) -> Result<(), AllocError>
     ensures { OnOk result (out.new.items ≡ out.old.items ++ head table kind) }
 {
-    let columns = table.columns(alloc, kind)?;
+    let columns = table.columns(*out.allocator(), kind)?;
     append_names(out, &columns)?;
     append_rule(out, &columns)
 }
 
 /// Appends a row after one of this kind.
 fn append_row(
-    alloc: Global,
     out: &mut Vec<u8>,
     table: Table,
     before: RowKind,
@@ -104,14 +98,13 @@ fn append_row(
 {
     if row.kind().number() != before.number() {
         out.push(b'\n')?;
-        append_head(alloc, out, table, row.kind())?;
+        append_head(out, table, row.kind())?;
     }
-    append_line(alloc, out, row.cells())
+    append_line(out, row.cells())
 }
 
 /// Appends rows after one of this kind.
 fn append_others(
-    alloc: Global,
     out: &mut Vec<u8>,
     table: Table,
     kind: RowKind,
@@ -121,7 +114,7 @@ fn append_others(
 {
     let mut before = kind;
     for row in rows {
-        append_row(alloc, out, table, before, row)?;
+        append_row(out, table, before, row)?;
         before = row.kind();
     }
     Ok(())
@@ -132,7 +125,6 @@ fn append_others(
 ///
 /// The only error is that memory runs out; then a part may have been appended.
 pub fn append_markdown(
-    alloc: Global,
     out: &mut Vec<u8>,
     table: Table,
     rows: &[AnswerRow],
@@ -140,11 +132,11 @@ pub fn append_markdown(
     ensures { OnOk result (out.new.items ≡ out.old.items ++ markdown_text table rows.now) }
 {
     match rows.split_first() {
-        None => append_head(alloc, out, table, table.kind),
+        None => append_head(out, table, table.kind),
         Some((first, others)) => {
-            append_head(alloc, out, table, first.kind())?;
-            append_line(alloc, out, first.cells())?;
-            append_others(alloc, out, table, first.kind(), others)
+            append_head(out, table, first.kind())?;
+            append_line(out, first.cells())?;
+            append_others(out, table, first.kind(), others)
         }
     }
 }

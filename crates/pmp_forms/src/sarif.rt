@@ -346,15 +346,14 @@ fn append_log(out: &mut Vec<u8>, rules: &[Vec<u8>], results: &[Vec<u8>]) -> Resu
 /// `warning`. A row that holds is no result. A finding is at its line of the script, and a policy's row at its own, where
 /// the policy has a row a line. The only error is that memory runs out; then a part may have been appended.
 pub fn append_sarif(
-    alloc: Global,
     out: &mut Vec<u8>,
     suite: Suite<'_>,
     rows: &[AnswerRow],
 ) -> Result<(), AllocError>
     ensures { OnOk result (out.new.items ≡ out.old.items ++ sarif_text (suite_said suite.entry) rows.now) }
 {
-    let cases = cases_of(alloc, suite, rows)?;
-    let rules = rules_of(alloc, suite.check, &cases)?;
-    let results = results_of(alloc, suite.policy, &cases)?;
+    let cases = cases_of(*out.allocator(), suite, rows)?;
+    let rules = rules_of(*out.allocator(), suite.check, &cases)?;
+    let results = results_of(*out.allocator(), suite.policy, &cases)?;
     append_log(out, &rules, &results)
 }

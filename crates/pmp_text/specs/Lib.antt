@@ -31,7 +31,6 @@ pub mod NumberedTraces
 pub mod Numbers
 pub mod Outcomes
 pub mod Picture
-pub mod PictureTexts
 pub mod Policies
 pub mod Refusals
 pub mod Reports

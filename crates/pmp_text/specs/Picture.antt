@@ -13,9 +13,10 @@ use Rattle.pmp_map.specs.declared.run.Run.{Run}
 use Rattle.pmp_map.specs.Answers.{owned_rights}
 use Rattle.pmp_map.specs.Runs.{AreRuns}
 use Rattle.pmp_text.specs.declared.lines.hexadecimal.TheConstants.{ADDRESS_DIGITS}
-use Rattle.pmp_text.specs.declared.lines.picture.TheConstants.{BAND}
+use Rattle.pmp_text.specs.declared.lines.picture.TheConstants.{BAND, FOOT}
+use Rattle.pmp_text.specs.declared.lines.picture.band.TheConstants.{BYPASSED, FROZEN, HELD}
+use Rattle.pmp_text.specs.declared.lines.picture.head.TheConstants.{BANDS, LEGEND, STYLE}
 use Rattle.pmp_text.specs.Hexadecimal.{hex_text}
-use Rattle.pmp_text.specs.PictureTexts.{bands_begin, bypassed_sign, foot, frozen_sign, held_sign, legend, style}
 use Rattle.pmp_text.specs.MetNames.{Named, is_whole, meets, offset_text}
 use Rattle.pmp_text.specs.RightsTexts.{rights_text}
 
@@ -68,9 +69,9 @@ permissions machine others =
 
 -- a full lock if the owner is held, an empty one if it is only frozen, an open one if RLB bypasses its lock
 abbrev pub sign_of : Lock → (is_held : Bool) → List ℕ
-sign_of Frozen true = held_sign
-sign_of Frozen false = frozen_sign
-sign_of Bypassed is_held = bypassed_sign
+sign_of Frozen true = HELD.now
+sign_of Frozen false = FROZEN.now
+sign_of Bypassed is_held = BYPASSED.now
 sign_of Open is_held = []
 
 abbrev pub lock_sign : RegisterFile → Option ℕ → List ℕ
@@ -176,12 +177,12 @@ settings mseccfg = settings_line (switch_text mseccfg.mml) (switch_text mseccfg.
 -- the title of a picture of so many bands, its colours and its background
 unfoldable pub title_part : (publications : ℕ) → (has_names : Bool) → (bands : ℕ) → List ℕ
 title_part publications has_names bands = let width = width_text has_names in
-    opening width bands ++ (spoken_title publications ++ (style ++ background width))
+    opening width bands ++ (spoken_title publications ++ (STYLE.now ++ background width))
 
 -- what stands between the background and the bands
 unfoldable pub legend_part : RegisterFile → (publications : ℕ) → (has_names : Bool) → List ℕ
 legend_part file publications has_names =
-    large_title publications ++ (settings file.mseccfg ++ (legend ++ (names_head has_names ++ bands_begin)))
+    large_title publications ++ (settings file.mseccfg ++ (LEGEND.now ++ (names_head has_names ++ BANDS.now)))
 
 -- a band for each run, from the top down
 unfoldable pub bands : RegisterFile → Option (List Named) → List Run → List ℕ
@@ -193,4 +194,4 @@ pub record IsPicture (file : RegisterFile) (publications : ℕ) (names : Option 
     pub runs : List Run
     pub runs_are : AreRuns file runs
     pub drawn : text ≡ title_part publications (is_some names) (length runs)
-        ++ (legend_part file publications (is_some names) ++ (bands file names runs ++ foot))
+        ++ (legend_part file publications (is_some names) ++ (bands file names runs ++ FOOT.now))

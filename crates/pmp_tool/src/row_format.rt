@@ -100,13 +100,13 @@ pub fn formed(
     };
     let table = asked.table(has_hart);
     match (asked.format, check_of(asked.kind)) {
-        (RowFormat::Json, _) => append_json(alloc, &mut text, table, rows)?,
-        (RowFormat::Markdown, _) => append_markdown(alloc, &mut text, table, rows)?,
+        (RowFormat::Json, _) => append_json(&mut text, table, rows)?,
+        (RowFormat::Markdown, _) => append_markdown(&mut text, table, rows)?,
         (RowFormat::Junit, Some(check)) => {
-            append_junit(alloc, &mut text, asked.suite(check, has_hart), rows)?;
+            append_junit(&mut text, asked.suite(check, has_hart), rows)?;
         }
         (RowFormat::Sarif, Some(check)) => {
-            append_sarif(alloc, &mut text, asked.suite(check, has_hart), rows)?;
+            append_sarif(&mut text, asked.suite(check, has_hart), rows)?;
         }
         _ => append_csv(&mut text, rows)?,
     }

@@ -3,13 +3,12 @@ use Rattle.std.proofs.lemmas.Result.{on_err_weaker, on_ok_weaker}
 use Rattle.std.specs.Prelude.{is_some}
 use Rattle.pmp_text.specs.MetNames.{given_names}
 use Rattle.pmp_text.specs.Picture.{bands, legend_part, title_part}
-use Rattle.pmp_text.specs.PictureTexts.{foot}
+use Rattle.pmp_text.specs.declared.lines.picture.TheConstants.{FOOT}
 use Rattle.pmp_text.proofs.Picture.{joined, three_appended}
 use Rattle.pmp_text.proofs.Prefixes.{on_err, starts_after, starts_before}
 use Rattle.pmp_text.proofs.lines.picture.write_all.Goals as goal
 
 pub returns-clause-ok : goal.returns-clause-ok
-unfolding foot
 returns-clause-ok g c =
     let file = c.args.drawing.file.now in
     let names = given_names c.args.drawing.names in
@@ -18,10 +17,10 @@ returns-clause-ok g c =
     let legend = legend_part file c.args.drawing.publications (is_some names) in
     on_ok_weaker c.append.result
     (λ last. (
-      top ++ (legend ++ (bands file names runs ++ foot)),
+      top ++ (legend ++ (bands file names runs ++ FOOT.now)),
       record { runs = runs; runs_are = c.requires.runs; drawn = refl },
       joined _ _ _ top _ c.in_ok-write_title.ensures.ok
-          (three_appended _ _ _ _ legend (bands file names runs) foot c.in_ok-write_legend.ensures.ok
+          (three_appended _ _ _ _ legend (bands file names runs) FOOT.now c.in_ok-write_legend.ensures.ok
           c.in_ok-write_bands.ensures.ok last),
     ))
     (rw c.as_bytes.ensures.value at c.append.ensures.ok)
