@@ -11,6 +11,14 @@ use crate::standing::Standing;
 use pmp_text::{Fault, ReadScript, RowReader};
 use std::alloc::Global;
 
+/// A piece of a trace, the script that it is decided by, and where it begins.
+#[derive(Clone, Copy)]
+pub struct Piece<'a, 's> {
+    pub script: &'a ReadScript<'s>,
+    pub text: &'a [u8],
+    pub standing: Standing,
+}
+
 /// The report of a piece, text by text, and where the next piece begins.
 #[derive(Drop)]
 pub struct PieceReport {
@@ -53,16 +61,18 @@ fn report_rows(
 }
 
 /// Reads a piece in place, and decides its rows. Besides the report only one record takes memory.
-pub fn report_piece(
-    alloc: Global,
-    script: &ReadScript,
-    text: &[u8],
-    standing: Standing,
-) -> Result<PieceReport, Fault>
-    requires { standing.faults ≤ standing.place.next }
-    ensures ok { IfOk result (IsPieceReported script.now (records_of text.now) standing) }
-    ensures err { IfErr result (PieceFails script.now (records_of text.now) standing) }
+pub fn report_piece(alloc: Global, piece: Piece<'_, '_>) -> Result<PieceReport, Fault>
+    requires { piece.standing.faults ≤ piece.standing.place.next }
+    ensures ok { IfOk result
+        (IsPieceReported piece.entry.script.now (records_of piece.entry.text.now) piece.entry.standing) }
+    ensures err { IfErr result
+        (PieceFails piece.entry.script.now (records_of piece.entry.text.now) piece.entry.standing) }
 {
+    let Piece {
+        script,
+        text,
+        standing,
+    } = piece;
     let moments = script.moments();
     let mut rows = RowReader::open(alloc, text, &moments, standing.place)?;
     let behind_header = Standing {

@@ -7,7 +7,7 @@ ghost use Rattle.pmp_audit.specs.Answers.{IsWritten, IsRefused};
 ghost use Rattle.pmp_audit.specs.TraceAudit.{AuditSays, AuditRefuses};
 
 use crate::answer::write_texts;
-use crate::piece::report_piece;
+use crate::piece::{Piece, report_piece};
 use crate::standing::Standing;
 use pmp_text::{
     Fault, GrowingLog, MAX_TRACE, ReadScript, Refusal, Source, TraceRow, read_script_in,
@@ -93,7 +93,12 @@ fn audit_trace<W: Write>(
     if trace.len() > MAX_TRACE {
         return Err(Refusal::TooLong.whole().at_row(Source::Trace, 0));
     }
-    let report = report_piece(alloc, script, trace, Standing::beginning(1))?;
+    let piece = Piece {
+        script: &*script,
+        text: trace,
+        standing: Standing::beginning(1),
+    };
+    let report = report_piece(alloc, piece)?;
     let summary = report.behind.end(1)?;
     write_texts(writer, &report.texts)?;
     Ok(summary)

@@ -16,7 +16,7 @@ use crate::outcome::Outcome;
 use crate::questions::script_at;
 use crate::request::{Audit, Import, LongAudit};
 use crate::work::Work;
-use pmp_audit::{OpenGate, PIECE, audit_by_workers, audit_long, audit_whole};
+use pmp_audit::{Jobs, OpenGate, PIECE, Pieces, audit_by_workers, audit_long, audit_whole};
 use pmp_import::{Given, import, survey_log};
 use std::alloc::Global;
 use std::io::Write;
@@ -70,17 +70,17 @@ pub fn write_long_report<R: Threads + Wait + Sync, I: Inputs, O: Write>(
 {
     let script = script_at(inputs, audit.script)?;
     let mut rows = open_trace(work.setting.names, inputs, audit.trace)?;
-    let jobs = audit.jobs.unwrap_or_else(|| processors(work.rt)) as usize;
-    let summary = audit_long(
-        work.rt,
-        work.setting.alloc,
+    let jobs = Jobs {
+        rt: work.rt,
+        alloc: work.setting.alloc,
+        count: audit.jobs.unwrap_or_else(|| processors(work.rt)) as usize,
+    };
+    let pieces = Pieces {
         jobs,
-        &script,
-        audit.first,
-        PIECE,
-        &mut rows,
-        out,
-    )?;
+        first: audit.first,
+        limit: PIECE,
+    };
+    let summary = audit_long(&pieces, &script, &mut rows, out)?;
     Ok(Outcome::Audited(summary))
 }
 

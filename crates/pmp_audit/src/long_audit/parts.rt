@@ -6,50 +6,86 @@ ghost use Rattle.pmp_text.specs.Tables.{is_line_end, records_of};
 ghost use Rattle.pmp_audit.specs.LongParts.{AreJoined};
 ghost use Rattle.pmp_audit.specs.LongPieces.{IsPieceReported, PieceFails};
 
-use crate::piece::{PieceReport, report_piece};
+use crate::piece::{Piece, PieceReport, report_piece};
 use crate::standing::Standing;
-use pmp_text::{Fault, Moments, Position, ReadScript};
+use pmp_text::{Fault, Moments, Position};
 use std::alloc::{AllocError, Global};
 use std::thread;
 use std::thread::Threads;
 
-/// Reports a piece as [`report_piece`] does, in `parts` parts at a time. Each part starts from its likely position. If
-/// that turns out wrong, or the part isn't reported, the piece is reported as one part.
+/// How many jobs run at a time, and where their threads and their memory come from.
+#[derive(Drop)]
+pub struct Jobs<'r, T> {
+    pub rt: &'r T,
+    pub alloc: Global,
+    pub count: usize,
+}
+
+/// Reports a piece as [`report_piece`] does, in a part for each job at a time. Each part starts from its likely position.
+/// If that turns out wrong, or the part isn't reported, the piece is reported as one part.
 #[cycle(parts)]
 pub fn report_parts<T: Threads + Sync>(
-    rt: &T,
-    alloc: Global,
-    parts: usize,
-    script: &ReadScript,
-    text: &[u8],
-    standing: Standing,
+    jobs: &Jobs<'_, T>,
+    piece: Piece<'_, '_>,
 ) -> Result<PieceReport, Fault>
-    requires { standing.faults ≤ standing.place.next }
-    ensures ok { IfOk result (IsPieceReported script.now (records_of text.now) standing) }
-    ensures err { IfErr result (PieceFails script.now (records_of text.now) standing) }
+    requires { piece.standing.faults ≤ piece.standing.place.next }
+    ensures ok { IfOk result
+        (IsPieceReported piece.entry.script.now (records_of piece.entry.text.now) piece.entry.standing) }
+    ensures err { IfErr result
+        (PieceFails piece.entry.script.now (records_of piece.entry.text.now) piece.entry.standing) }
 {
-    if parts < 2 {
-        return report_piece(alloc, script, text, standing);
+    let Jobs { rt, alloc, count } = *jobs;
+    let Piece {
+        script,
+        text,
+        standing,
+    } = piece;
+    if count < 2 {
+        return report_piece(alloc, piece);
     }
     let Some(end) = middle_line_end(text) else {
-        return report_piece(alloc, script, text, standing);
+        return report_piece(alloc, piece);
     };
-    let half = parts / 2;
+    let half = count / 2;
     let low = &text[..=end];
     let high = &text[end..];
     let middle = likely_behind(&script.moments(), standing.place, low);
     let front = move || -> Result<PieceReport, Fault>
         requires { IsSync T.row × (0 < half) × (standing.faults ≤ standing.place.next) }
         ensures { IfOk result (IsPieceReported script.entry.now (records_of low.entry.now) standing) }
-    { report_parts(rt, alloc, half, script, low, standing) };
+    {
+        let jobs = Jobs {
+            rt,
+            alloc,
+            count: half,
+        };
+        let piece = Piece {
+            script,
+            text: low,
+            standing,
+        };
+        report_parts(&jobs, piece)
+    };
     let back = move || -> Result<PieceReport, Fault>
-        requires { IsSync T.row × (half < parts) × (middle.faults ≤ middle.place.next) }
+        requires { IsSync T.row × (half < count) × (middle.faults ≤ middle.place.next) }
         ensures { IfOk result (IsPieceReported script.entry.now (records_of high.entry.now) middle) }
-    { report_parts(rt, alloc, parts - half, script, high, middle) };
+    {
+        let jobs = Jobs {
+            rt,
+            alloc,
+            count: count - half,
+        };
+        let piece = Piece {
+            script,
+            text: high,
+            standing: middle,
+        };
+        report_parts(&jobs, piece)
+    };
     let (front, back) = thread::join(rt, front, back);
     match joined(front, middle, back)? {
         Some(both) => Ok(both),
-        None => report_piece(alloc, script, text, standing),
+        None => report_piece(alloc, piece),
     }
 }
 

@@ -13,7 +13,7 @@ pub loop-count-init : goal.loop-count-init
 loop-count-init g c = (
   _,
   _,
-  going_begins c.args.script.now c.args.first _ c.new-held.result.items _ c.beginning-standing.result
+  going_begins c.args.script.now c.args.audit.now.first _ c.new-held.result.items _ c.beginning-standing.result
       c.new-held.ensures.items c.beginning-standing.ensures,
   c.cut_piece-cut.ensures,
 )
@@ -24,7 +24,7 @@ report_and_cut-report-requires g c =
     let front = rw c.in-Ok-Front.field-0-is at (rw c.in-Ok-Front.is at cut) in
     let within = front.within in
     let size = c.loop-count.held.ok in
-    let room : vec_len c.loop-count.held ≤ c.args.limit = omega arith in
+    let room : vec_len c.loop-count.held ≤ c.args.audit.now.limit = omega arith in
     let few = few_refused going.stands (omega arith) in
     search rules
 
@@ -52,7 +52,7 @@ returns-in_err-report-in-Ok-Front-clause-err g c = λ text means.
     let why = IfErr-at_err (PieceFails c.args.script.now (records_of piece) c.loop-count.standing)
     c.in_err-report-in-Ok-Front.was (rw c.deref.ensures.value at c.report_and_cut-report.ensures.err) in
     let stopped : c.from_residual.result ≡ Err c.in_err-report-in-Ok-Front.field-0.0 = search rules in
-    rw stopped (fails going c.args.limit _ piece (has_front going c.args.limit _ _ piece front)
+    rw stopped (fails going c.args.audit.now.limit _ piece (has_front going c.args.audit.now.limit _ _ piece front)
     c.in_err-report-in-Ok-Front.field-0.0 why text means)
 
 pub returns-in_err-write_texts-in-Ok-Front-clause-err : goal.returns-in_err-write_texts-in-Ok-Front-clause-err
@@ -63,7 +63,7 @@ returns-in_err-write_texts-in-Ok-Front-clause-err g c = λ text means.
     let reported = IfOk-at_ok _ c.in_ok-report-in-Ok-Front.was
     (rw c.deref.ensures.value at c.report_and_cut-report.ensures.ok) in
     let stopped : c.from_residual-in_err-write_texts-in-Ok-Front.result ≡ Err no_output = search rules in
-    rw stopped (stops_short going c.args.limit _ piece (has_front going c.args.limit _ _ piece front) _ _ reported _
+    rw stopped (stops_short going c.args.audit.now.limit _ piece (has_front going c.args.audit.now.limit _ _ piece front) _ _ reported _
     (rw c.deref-in-Ok-Front.ensures.value at c.in_err-write_texts-in-Ok-Front.ensures.err) text means)
 
 pub returns-in_err-report-in-Ok-Last-clause-err : goal.returns-in_err-report-in-Ok-Last-clause-err
@@ -73,7 +73,7 @@ returns-in_err-report-in-Ok-Last-clause-err g c = λ text means.
     let piece = c.in-Ok-Last.text.items in
     let stopped : c.from_residual-in_err-report-in-Ok-Last.result ≡ Err c.in_err-report-in-Ok-Last.field-0.0 =
     search rules in
-    rw stopped (fails going c.args.limit _ piece (has_last going c.args.limit _ piece cut)
+    rw stopped (fails going c.args.audit.now.limit _ piece (has_last going c.args.audit.now.limit _ piece cut)
     c.in_err-report-in-Ok-Last.field-0.0
     (rw c.deref-in-Ok-Last.ensures.value at c.in_err-report-in-Ok-Last.ensures.err) text means)
 
@@ -83,30 +83,30 @@ returns-in_err-write_texts-in-Ok-Last-clause-err g c = λ text means.
     let going = c.loop-count.invariant.2 in
     let piece = c.in-Ok-Last.text.items in
     let stopped : c.from_residual-in_err-write_texts-in-Ok-Last.result ≡ Err no_output = search rules in
-    rw stopped (stops_short going c.args.limit _ piece (has_last going c.args.limit _ piece cut) _ _
+    rw stopped (stops_short going c.args.audit.now.limit _ piece (has_last going c.args.audit.now.limit _ piece cut) _ _
     (rw c.deref-in-Ok-Last.ensures.value at c.in_ok-report-in-Ok-Last.ensures.ok) _
     (rw c.deref-in-Ok-Last-2.ensures.value at c.in_err-write_texts-in-Ok-Last.ensures.err) text means)
 
 pub returns-in-Ok-Last-clause-ok : goal.returns-in-Ok-Last-clause-ok
 returns-in-Ok-Last-clause-ok g c =
     let cut = rw c.in-Ok-Last.field-0-is at (rw c.in-Ok-Last.is at c.loop-count.invariant.3) in
-    ends_well c.loop-count.invariant.2 c.args.limit _ c.in-Ok-Last.text.items cut
+    ends_well c.loop-count.invariant.2 c.args.audit.now.limit _ c.in-Ok-Last.text.items cut
     (rw c.deref-in-Ok-Last.ensures.value at c.in_ok-report-in-Ok-Last.ensures.ok) _
     (rw c.deref-in-Ok-Last-2.ensures.value at c.in_ok-write_texts-in-Ok-Last.ensures.ok) c.end.result c.end.ensures
 
 pub returns-in-Ok-Last-clause-err : goal.returns-in-Ok-Last-clause-err
 returns-in-Ok-Last-clause-err g c =
     let cut = rw c.in-Ok-Last.field-0-is at (rw c.in-Ok-Last.is at c.loop-count.invariant.3) in
-    ends_badly c.loop-count.invariant.2 c.args.limit _ c.in-Ok-Last.text.items cut
+    ends_badly c.loop-count.invariant.2 c.args.audit.now.limit _ c.in-Ok-Last.text.items cut
     (rw c.deref-in-Ok-Last.ensures.value at c.in_ok-report-in-Ok-Last.ensures.ok) _
     (rw c.deref-in-Ok-Last-2.ensures.value at c.in_ok-write_texts-in-Ok-Last.ensures.ok) c.end.result c.end.ensures
 
 pub returns-in-Err-clause-err : goal.returns-in-Err-clause-err
 returns-in-Err-clause-err g c = λ text means.
     let cut = rw c.in-Err.is at c.loop-count.invariant.3 in
-    rw c.of.ensures (cut_stops c.loop-count.invariant.2 c.args.limit (g.R.Read.remaining c.loop-count.reader)
+    rw c.of.ensures (cut_stops c.loop-count.invariant.2 c.args.audit.now.limit (g.R.Read.remaining c.loop-count.reader)
     c.loop-count.held.items c.in-Err.fault cut text means)
 
 pub returns-clause-err : goal.returns-clause-err
-returns-clause-err g c = λ text means. rw (c.at_row.ensures, c.whole.ensures) (no_turn c.loop-count.invariant.2 c.args.limit
+returns-clause-err g c = λ text means. rw (c.at_row.ensures, c.whole.ensures) (no_turn c.loop-count.invariant.2 c.args.audit.now.limit
     (g.R.Read.remaining c.loop-count.reader) (omega arith) text means)

@@ -6,6 +6,6 @@ use Rattle.pmp_audit.proofs.long_audit.audit_pieces.Given as goal
 -- whole pieces were read and reported, and the next one is cut off
 abbrev pub invariant-loop-count : goal.invariant-loop-count
 invariant-loop-count g l = (in_mid : Option (List ℕ)) × (held : List ℕ)
-    × Going l.script l.first l._count (g.R.Read.remaining l.fn.reader) in_mid held
+    × Going l.script l.audit.first l._count (g.R.Read.remaining l.fn.reader) in_mid held
     (g.W.Write.contents l.fn.writer) (g.W.Write.contents l.writer) l.standing
-    × IsCut l.limit held in_mid (g.R.Read.remaining l.reader) l.held.items l.cut
+    × IsCut l.audit.limit held in_mid (g.R.Read.remaining l.reader) l.held.items l.cut
