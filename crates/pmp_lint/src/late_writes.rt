@@ -12,7 +12,7 @@ use crate::end_state::found_if;
 use crate::finding::Finding;
 use crate::lint::Lint;
 use crate::told::Told;
-use crate::trail::line_at;
+use crate::trail::{Publication, line_at};
 use pmp_core::{Event, RegFile};
 use pmp_text::{NoMemory, ReadScript, RowSink};
 
@@ -67,26 +67,25 @@ impl<'a> Happening<'a> {
     }
 }
 
-/// Tells the findings for these events, which are in these lines, and executes them.
+/// Tells the findings for the events of a publication, and executes them.
 fn add_of_publication<R: RowSink>(
     out: &mut R,
     told: &mut Told<'_>,
     file: &mut RegFile,
-    events: &[Event],
-    lines: &[u64],
+    publication: Publication<'_>,
 ) -> Result<(), NoMemory>
     ensures ok { OnOk result (HasTold R.Adds
-        (flat_map late_writes_of (happenings_from 0 file.old events.now lines.now))
+        (flat_map late_writes_of (happenings_from 0 file.old publication.entry.events.now publication.entry.lines.now))
         (telling out.old told.old) (telling out.new told.new)) }
-    ensures file { OnOk result (file.new ≡ fold step file.old events.now) }
+    ensures file { OnOk result (file.new ≡ fold step file.old publication.entry.events.now) }
     ensures err { OnErr result (AddsSome R.Adds out.old out.new) }
 {
-    for (place, event) in events.iter().enumerate() {
+    for (place, event) in publication.events.iter().enumerate() {
         let before = *file;
         let happening = Happening {
             before: &before,
             event: *event,
-            line: line_at(lines, place),
+            line: line_at(publication.lines, place),
         };
         happening.add_late_writes(out, told)?;
         file.step(*event);
@@ -106,13 +105,11 @@ pub fn add_late_writes<R: RowSink>(
 {
     let mut file = script.start();
     for index in 0..script.batches() {
-        add_of_publication(
-            out,
-            told,
-            &mut file,
-            script.batch(index),
-            script.lines(index),
-        )?;
+        let publication = Publication {
+            events: script.batch(index),
+            lines: script.lines(index),
+        };
+        add_of_publication(out, told, &mut file, publication)?;
     }
     Ok(())
 }

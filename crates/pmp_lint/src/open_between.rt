@@ -13,7 +13,7 @@ use crate::finding::Finding;
 use crate::lint::Lint;
 use crate::stretch::{Between, Stretch};
 use crate::told::Told;
-use crate::trail::line_at;
+use crate::trail::{Publication, line_at};
 use pmp_core::{ADDRESS_LIMIT, Event, RegFile, Span};
 use pmp_text::{Modes, NoMemory, ReadScript, RowSink};
 
@@ -63,31 +63,30 @@ impl<'a> Between<'a> {
     }
 }
 
-/// Tells the findings for these events, which are a publication and are in these lines, and executes them.
+/// Tells the findings for the events of a publication, and executes them.
 fn add_of_publication<R: RowSink>(
     out: &mut R,
     told: &mut Told<'_>,
     file: &mut RegFile,
-    events: &[Event],
-    lines: &[u64],
+    publication: Publication<'_>,
 ) -> Result<(), NoMemory>
-    ensures ok { OnOk result (HasToldSome R.Adds (AreOfEvents file.old (fold step file.old events.now)
-        (happenings_from 0 file.old events.now lines.now))
+    ensures ok { OnOk result (HasToldSome R.Adds (AreOfEvents file.old (fold step file.old publication.entry.events.now)
+        (happenings_from 0 file.old publication.entry.events.now publication.entry.lines.now))
         (telling out.old told.old) (telling out.new told.new)) }
-    ensures file { OnOk result (file.new ≡ fold step file.old events.now) }
+    ensures file { OnOk result (file.new ≡ fold step file.old publication.entry.events.now) }
     ensures err { OnErr result (AddsSome R.Adds out.old out.new) }
 {
     let before = *file;
     let mut after = *file;
-    after.run_events(events);
-    for (place, event) in events.iter().enumerate() {
+    after.run_events(publication.events);
+    for (place, event) in publication.events.iter().enumerate() {
         file.step(*event);
         let between = Between {
             before: &before.registers(),
             during: &file.registers(),
             after: &after.registers(),
         };
-        between.add_opened(out, told, line_at(lines, place))?;
+        between.add_opened(out, told, line_at(publication.lines, place))?;
     }
     Ok(())
 }
@@ -105,13 +104,11 @@ pub fn add_open_between<R: RowSink>(
 {
     let mut file = script.start();
     for index in 0..script.batches() {
-        add_of_publication(
-            out,
-            told,
-            &mut file,
-            script.batch(index),
-            script.lines(index),
-        )?;
+        let publication = Publication {
+            events: script.batch(index),
+            lines: script.lines(index),
+        };
+        add_of_publication(out, told, &mut file, publication)?;
     }
     Ok(())
 }

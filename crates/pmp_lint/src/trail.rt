@@ -16,6 +16,13 @@ struct Trail {
     line: u64,
 }
 
+/// The events of a publication, and their lines.
+#[derive(Clone, Copy)]
+pub struct Publication<'a> {
+    pub events: &'a [Event],
+    pub lines: &'a [u64],
+}
+
 /// Returns the line at this index.
 pub fn line_at(lines: &[u64], place: usize) -> u64
     ensures { result ≡ slice_index lines.now place }

@@ -19,8 +19,8 @@ pub loop-place-preserved : goal.loop-place-preserved
 loop-place-preserved g c =
     let place = c.loop-place.place in
     let file = c.loop-place.file in
-    let events = c.args.events.now in
-    let lines = c.args.lines.now in
+    let events = c.args.publication.events.now in
+    let lines = c.args.publication.lines.now in
     let inside = c.loop-place-test.true in
     let adds = g.R.RowSink.Adds in
     let zero = g.met.R.RowSink.none in
@@ -35,7 +35,7 @@ loop-place-preserved g c =
 
 pub returns-clause-ok : goal.returns-clause-ok
 returns-clause-ok g c =
-    let left = none_left c.loop-place.place c.loop-place.file c.args.events.now c.args.lines.now none
+    let left = none_left c.loop-place.place c.loop-place.file c.args.publication.events.now c.args.publication.lines.now none
     c.loop-place-test.false in
     c.loop-place.invariant.told _ (rw left (then_none g.R.RowSink.Adds g.met.R.RowSink.none g.met.R.RowSink.both _))
 

@@ -10,11 +10,11 @@ use Rattle.pmp_lint.proofs.late_writes.add_of_publication.Given as goal
 -- the events so far: once what the rest has is told too, what all have is told
 abbrev pub invariant-loop-place : goal.invariant-loop-place
 invariant-loop-place g l = record {
-  file : fold step l.file (drop l.place l.events) ≡ fold step l.fn.file l.events;
+  file : fold step l.file (drop l.place l.publication.events.now) ≡ fold step l.fn.file l.publication.events.now;
   told : (later : Telling _)
-      → HasTold g.R.RowSink.Adds (flat_map late_writes_of (happenings_from l.place l.file (drop l.place l.events) l.lines))
+      → HasTold g.R.RowSink.Adds (flat_map late_writes_of (happenings_from l.place l.file (drop l.place l.publication.events.now) l.publication.lines.now))
       (telling l.out l.told) later
-      → HasTold g.R.RowSink.Adds (flat_map late_writes_of (happenings_from 0 l.fn.file l.events l.lines))
+      → HasTold g.R.RowSink.Adds (flat_map late_writes_of (happenings_from 0 l.fn.file l.publication.events.now l.publication.lines.now))
       (telling l.fn.out l.fn.told) later;
   some : AddsSome g.R.RowSink.Adds l.fn.out l.out;
 }

@@ -16,8 +16,8 @@ pub loop-place-preserved : goal.loop-place-preserved
 loop-place-preserved g c =
     let place = c.loop-place.place in
     let file = c.loop-place.file in
-    let events = c.args.events.now in
-    let lines = c.args.lines.now in
+    let events = c.args.publication.events.now in
+    let lines = c.args.publication.lines.now in
     let inside = c.loop-place-test.true in
     record {
       file = rw c.step.ensures.step (sym (file_on place file events lines none inside) ∙ c.loop-place.invariant.file);
@@ -36,8 +36,8 @@ loop-place-preserved g c =
 pub returns-clause-ok : goal.returns-clause-ok
 returns-clause-ok g c =
     let file = c.args.file.now in
-    let events = c.args.events.now in
-    let lines = c.args.lines.now in
+    let events = c.args.publication.events.now in
+    let lines = c.args.publication.lines.now in
     let left = none_left c.loop-place.place c.loop-place.file events lines none c.loop-place-test.false in
     rw c.run_events.ensures.steps
     at (all_events g.R.RowSink.Adds g.met.R.RowSink.none g.met.R.RowSink.both file c.run_events.new.self (happenings_from 0 file events lines) _ _
