@@ -2,7 +2,7 @@
 
 ghost use Rattle.std.specs.Prelude.{◌≡◌, not, position};
 ghost use Rattle.pmp_text.specs.Lines.{words};
-ghost use Rattle.pmp_import.specs.Qemu.{access_of, csr_called, event_told, is_stamp, name_end, names_event, qemu_said};
+ghost use Rattle.pmp_import.specs.Qemu.{csr_called, event_told, is_stamp, name_end, names_event, qemu_said};
 ghost use Rattle.pmp_import.specs.Qemu.{unstamped, verb_named};
 
 use crate::said::{How, Said, Told, is_of_rv32, occurs, read_hex};
@@ -59,7 +59,7 @@ fn names_event(line: &[u8]) -> bool
 }
 
 /// Returns what the words of an event report, if they are those of a write or a read.
-#[tactic(auto, unfolding(crate::specs::Qemu::event_told))]
+#[tactic(auto, unfolding(crate::specs::Qemu::event_told, crate::specs::Qemu::access_of))]
 fn read_event(mut event: Words) -> Option<Told>
     ensures { result ≡ event_told (words event.entry.rest.now) }
 {
@@ -73,20 +73,6 @@ fn read_event(mut event: Words) -> Option<Told>
     if event.next().is_some() || hart != b"hart".as_slice() || label != b"val:".as_slice() {
         return None;
     }
-    read_access(name, number, verb, register, value)
-}
-
-/// Returns what the words of a write or a read report.
-#[tactic(auto, unfolding(crate::specs::Qemu::access_of))]
-fn read_access(
-    name: &[u8],
-    number: &[u8],
-    verb: &[u8],
-    register: &[u8],
-    value: &[u8],
-) -> Option<Told>
-    ensures { result ≡ access_of name.now number.now verb.now register.now value.now }
-{
     let how = read_verb(verb)?;
     let kind = name.strip_suffix(name_end(how))?;
     let register = read_csr(kind, register.strip_suffix(b",")?)?;
