@@ -3,6 +3,7 @@
 ghost use Rattle.std.specs.Prelude.{◌≡◌};
 ghost use Rattle.pmp_plan.specs.Routes.{lasting, plain};
 
+use crate::plan_row::PlanRow;
 use crate::security::Security;
 use pmp_core::RegFile;
 
@@ -23,6 +24,13 @@ pub struct Aim {
     pub security: Security,
     /// What is asked of each write, if anything is.
     pub watch: Option<Watch>,
+}
+
+/// What writes are to lead to: registers that meet the rows of a plan, and an aim.
+#[derive(Clone, Copy)]
+pub struct Goal<'r, 'p> {
+    pub aim: Aim,
+    pub rows: &'r [PlanRow<'p>],
 }
 
 impl Aim {

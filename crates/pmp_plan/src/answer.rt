@@ -3,7 +3,7 @@
 ghost use Rattle.std.specs.Prelude.{◌≡◌, IfErr, IfOk};
 ghost use Rattle.pmp_plan.specs.PlanAnswers.{IsTold, PlanFails, Tells, Untold};
 
-use crate::aim::Aim;
+use crate::aim::{Aim, Goal};
 use crate::array::append_array;
 use crate::leading::plan;
 use crate::level::search_room;
@@ -44,7 +44,7 @@ fn told(
     let writes = plan(&mut search_room(alloc)?, start, aim, rows)?;
     let mut text = Vec::new(alloc);
     match form {
-        Form::Script => append_script(&mut text, start, aim, rows, &writes)?,
+        Form::Script => append_script(&mut text, start, Goal { aim, rows }, &writes)?,
         Form::Array => append_array(&mut text, &writes)?,
     }
     Ok(text)

@@ -4,7 +4,7 @@ ghost use Rattle.std.specs.Prelude.{IfErr, IfOk};
 ghost use Rattle.pmp_plan.specs.PlanFaults.{IsSound, RefusesFrom};
 ghost use Rattle.pmp_plan.specs.Routes.{Leads, lasting};
 
-use crate::aim::{Aim, Watch};
+use crate::aim::{Aim, Goal, Watch};
 use crate::judge::meets;
 use crate::layout::{Layout, behind_frozen, with_entries};
 use crate::order::Route;
@@ -20,32 +20,33 @@ use pmp_core::{Event, RegFile, SavedRegisters};
 use pmp_text::{Fault, Refusal};
 
 /// Returns writes to the plan's entries in the first place where an order is found.
-fn order_in(layout: Layout<'_>, aim: Aim, rows: &[PlanRow<'_>]) -> Option<ArrayVec<Event, WRITES>> {
+fn order_in(layout: Layout<'_>, goal: Goal<'_, '_>) -> Option<ArrayVec<Event, WRITES>> {
     let start = layout.start;
-    let security = aim.lasting(start);
+    let security = goal.aim.lasting(start);
     for first in 0..usize::from(start.entries()) {
         let Some(mut target) = layout.from_place(first) else {
             continue;
         };
         target.mseccfg = security.value();
         let end = RegFile::restore(&target);
-        if !meets(&end, start.hart(), security, rows) {
+        if !meets(&end, start.hart(), security, goal.rows) {
             continue;
         }
-        if let Some(writes) = Route::new(aim.watch, start, &end).found() {
+        if let Some(writes) = Route::new(goal.aim.watch, start, &end).found() {
             return Some(writes);
         }
     }
     None
 }
 
-/// Returns the aim with everything kept open that may be.
-fn keeping(aim: Aim) -> Aim {
-    let watch = aim.watch.map(|watch| Watch {
+/// Returns the goal with everything kept open that may be.
+fn keeping<'r, 'p>(goal: Goal<'r, 'p>) -> Goal<'r, 'p> {
+    let watch = goal.aim.watch.map(|watch| Watch {
         keeps_open: true,
         ..watch
     });
-    Aim { watch, ..aim }
+    let aim = Aim { watch, ..goal.aim };
+    Goal { aim, ..goal }
 }
 
 /// Returns writes that put these entries, so many of them, among those that are there, if they are found: if possible,
@@ -54,19 +55,18 @@ fn order_of(
     start: &RegFile,
     wanted: &SavedRegisters,
     count: usize,
-    aim: Aim,
-    rows: &[PlanRow<'_>],
+    goal: Goal<'_, '_>,
 ) -> Option<ArrayVec<Event, WRITES>> {
     let layout = Layout {
         start,
         wanted,
         count,
     };
-    let kept = order_in(layout, keeping(aim), rows);
+    let kept = order_in(layout, keeping(goal));
     if kept.is_some() {
         return kept;
     }
-    order_in(layout, aim, rows)
+    order_in(layout, goal)
 }
 
 /// Returns writes from these registers, if they are found: to the entries that a plan has after a reset, or else to
@@ -74,20 +74,19 @@ fn order_of(
 fn found(
     room: &mut [State],
     start: &RegFile,
-    aim: Aim,
-    rows: &[PlanRow<'_>],
+    goal: Goal<'_, '_>,
     planned: &Planned,
 ) -> Option<ArrayVec<Event, WRITES>> {
     let mut after_reset = RegFile::reset_on(start.hart());
     after_reset.run_events(&planned.writes);
-    let writes = order_of(start, &after_reset.save(), planned.entries, aim, rows);
+    let writes = order_of(start, &after_reset.save(), planned.entries, goal);
     if writes.is_some() {
         return writes;
     }
-    let parts = Parts::of(start.hart(), aim.lasting(start), rows)?;
+    let parts = Parts::of(start.hart(), goal.aim.lasting(start), goal.rows)?;
     let state = search(room, &parts, behind_frozen(&parts, start))?;
     let wanted = with_entries(start, state.entries());
-    order_of(start, &wanted, state.count, aim, rows)
+    order_of(start, &wanted, state.count, goal)
 }
 
 /// Returns writes from these registers to ones that give each byte of each row exactly the row's rights, hold it if the
@@ -116,7 +115,7 @@ pub fn plan(
     if is_reset && leads(start, aim, rows, &planned.writes) {
         return Ok(planned.writes);
     }
-    match found(room, start, aim, rows, &planned) {
+    match found(room, start, Goal { aim, rows }, &planned) {
         Some(writes) if leads(start, aim, rows, &writes) => Ok(writes),
         _ => Err(Fault::from(Refusal::NoOrder)),
     }

@@ -36,7 +36,7 @@ mod unmet;
 mod verdicts;
 mod writes;
 
-pub use aim::{Aim, Watch};
+pub use aim::{Aim, Goal, Watch};
 pub use answer::{Form, Wanted, plan_text};
 pub use array::append_array;
 pub use judge::meets;
@@ -46,7 +46,7 @@ pub use passing::leads;
 pub use plan_of::{implemented_plan, registers_after};
 pub use plan_row::{Demand, PlanRow};
 pub use reading::{read_plan, read_plan_to};
-pub use room_plan::append_plan;
+pub use room_plan::{AskedPlan, append_plan};
 pub use row_list::RowList;
 pub use script::append_script;
 pub use security::Security;

@@ -1,6 +1,6 @@
 //! The writes for a plan after a reset.
 
-ghost use Rattle.std.specs.Prelude.{◌≡◌, ◌<◌, ◌≤◌, [], ℕ, IfErr, IfOk, IfSome, IsTrue, false, length};
+ghost use Rattle.std.specs.Prelude.{◌≡◌, ◌<◌, ◌≤◌, [], ℕ, IfErr, IfOk, IfSome, IsTrue, false, length, max};
 ghost use Rattle.pmp_core.specs.declared.size.TheConstants.{MAX_ENTRIES};
 ghost use Rattle.pmp_plan.specs.PlanFaults.{CanMeet, IsSound, Makes, Refuses};
 ghost use Rattle.pmp_plan.specs.NoRows.{security_writes};
@@ -63,21 +63,17 @@ fn with_entries(hart: Hart, entries: u8) -> Option<Hart>
     Hart::new(profile).ok()
 }
 
-/// Whether this many entries are enough, if a hart can have so many.
-fn is_enough(
-    hart: Hart,
-    security: Security,
-    rows: &[PlanRow<'_>],
-    entries: &[Chosen],
-    found: usize,
-) -> bool
-    ensures { IsTrue result → found ≤ MAX_ENTRIES → CanMeet (record hart { entries = found }) security rows.now }
+/// Whether the entries of a state are enough, if a hart can have so many.
+fn is_enough(hart: Hart, security: Security, rows: &[PlanRow<'_>], state: &State) -> bool
+    ensures { IsTrue result → max state.now.count 1 ≤ MAX_ENTRIES
+        → CanMeet (record hart { entries = max state.now.count 1 }) security rows.now }
 {
+    let found = state.count.max(1);
     if found > MAX_ENTRIES {
         return true;
     }
     match with_entries(hart, found as u8) {
-        Some(wide) => judged(wide, security, rows, entries).is_some(),
+        Some(wide) => judged(wide, security, rows, state.entries()).is_some(),
         None => false,
     }
 }
@@ -123,7 +119,7 @@ fn found(
             None => Err(Fault::from(Refusal::Stopped)),
         };
     }
-    if !is_enough(hart, security, rows, state.entries(), found) {
+    if !is_enough(hart, security, rows, &state) {
         return Err(Fault::from(Refusal::Stopped));
     }
     let (row, takes) = costliest(&parts, &state, rows);

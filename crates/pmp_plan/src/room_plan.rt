@@ -7,7 +7,7 @@ ghost use Rattle.pmp_plan.specs.PlanRooms.{HasNoScript};
 ghost use Rattle.pmp_plan.specs.Routes.{plain};
 ghost use Rattle.pmp_plan.specs.declared.answer.Form.TheVariants.{Script};
 
-use crate::aim::Aim;
+use crate::aim::{Aim, Goal};
 use crate::leading::plan;
 use crate::reading::read_plan_to;
 use crate::row_list::RowList;
@@ -17,28 +17,36 @@ use crate::state::State;
 use pmp_core::{Hart, RegFile};
 use pmp_text::{Fault, MAX_SCRIPT, Refusal, Sink, Source};
 
-/// Appends the script that `plan_text` gives for a plan in a text, for a hart after reset and these bits of
-/// `mseccfg`. The list keeps the plan's rows, and the search has the other room, of `SEARCH_ROOM` states.
+/// A plan in a text, for a hart after reset and bits of `mseccfg`.
+#[derive(Clone, Copy)]
+pub struct AskedPlan<'a> {
+    pub hart: Hart,
+    pub security: Security,
+    pub text: &'a [u8],
+}
+
+/// Appends the script that `plan_text` gives for a plan. The list keeps the plan's rows, and the search has the other
+/// room, of `SEARCH_ROOM` states.
 pub fn append_plan<'a, L: RowList<'a>, S: Sink>(
     rows: &mut L,
     room: &mut [State],
-    hart: Hart,
-    security: Security,
-    text: &'a [u8],
+    asked: AskedPlan<'a>,
     out: &mut S,
 ) -> Result<(), Fault>
-    ensures ok { OnOk result ((script : List ℕ) × Tells (reset_file hart) (plain security) Script text.now script
-        × (S.text out.new ≡ S.text out.old ++ script)) }
-    ensures err { IfErr result (HasNoScript hart security text.now) }
+    ensures ok { OnOk result ((script : List ℕ) × Tells (reset_file asked.entry.hart) (plain asked.entry.security) Script
+        asked.entry.text.now script × (S.text out.new ≡ S.text out.old ++ script)) }
+    ensures err { IfErr result (HasNoScript asked.entry.hart asked.entry.security asked.entry.text.now) }
     ensures kept { OnErr result (S.text out.new ≡ S.text out.old) }
 {
+    let text = asked.text;
     if text.len() > MAX_SCRIPT {
         return Err(Refusal::TooLong.whole().at_row(Source::Plan, 0));
     }
     read_plan_to(rows, text)?;
-    let start = RegFile::reset_on(hart);
-    let aim = Aim::plain(security);
-    let writes = plan(room, &start, aim, rows.rows())?;
-    append_script(out, &start, aim, rows.rows(), &writes)?;
+    let start = RegFile::reset_on(asked.hart);
+    let aim = Aim::plain(asked.security);
+    let rows = rows.rows();
+    let writes = plan(room, &start, aim, rows)?;
+    append_script(out, &start, Goal { aim, rows }, &writes)?;
     Ok(())
 }

@@ -3,9 +3,8 @@
 ghost use Rattle.std.specs.Prelude.{◌≡◌, ◌++◌, IsTrue, List, ℕ, OnErr, OnOk};
 ghost use Rattle.pmp_plan.specs.PlanScripts.{MeansPlan};
 
-use crate::aim::Aim;
+use crate::aim::Goal;
 use crate::passing::leads;
-use crate::plan_row::PlanRow;
 use crate::writes::WRITES;
 use arrayvec::ArrayVec;
 use pmp_core::{BATCH_EVENTS, Event, RegFile};
@@ -37,8 +36,8 @@ fn script_of(start: &RegFile, writes: &[Event]) -> Result<ArrayVec<u8, SCRIPT>, 
 
 /// Whether the text reads as a script that begins with these registers, expects nothing and names no moment, and whose
 /// writes lead to the plan.
-fn means_plan(text: &[u8], start: &RegFile, aim: Aim, rows: &[PlanRow<'_>]) -> bool
-    ensures { IsTrue result → MeansPlan start.now aim rows.now text.now }
+fn means_plan(text: &[u8], start: &RegFile, goal: Goal<'_, '_>) -> bool
+    ensures { IsTrue result → MeansPlan start.now goal.entry.aim goal.entry.rows.now text.now }
 {
     let mut log = FixedLog::<WRITES, 4, 1, 1>::new();
     let Ok(script) = read_script_in(&mut log, text) else {
@@ -56,7 +55,7 @@ fn means_plan(text: &[u8], start: &RegFile, aim: Aim, rows: &[PlanRow<'_>]) -> b
     if !marks.is_empty() {
         return false;
     }
-    leads(start, aim, rows, script.events())
+    leads(start, goal.aim, goal.rows, script.events())
 }
 
 /// Appends the script of version 3 that begins with these registers and makes these writes, if they lead to the plan:
@@ -64,16 +63,15 @@ fn means_plan(text: &[u8], start: &RegFile, aim: Aim, rows: &[PlanRow<'_>]) -> b
 pub fn append_script<S: Sink>(
     out: &mut S,
     start: &RegFile,
-    aim: Aim,
-    rows: &[PlanRow<'_>],
+    goal: Goal<'_, '_>,
     writes: &[Event],
 ) -> Result<(), NoMemory>
-    ensures ok { OnOk result ((text : List ℕ) × MeansPlan start.now aim rows.now text
+    ensures ok { OnOk result ((text : List ℕ) × MeansPlan start.now goal.entry.aim goal.entry.rows.now text
         × (S.text out.new ≡ S.text out.old ++ text)) }
     ensures err { OnErr result (S.text out.new ≡ S.text out.old) }
 {
     let text = script_of(start, writes)?;
-    if !means_plan(&text, start, aim, rows) {
+    if !means_plan(&text, start, goal) {
         return Err(NoMemory);
     }
     out.append(&text)

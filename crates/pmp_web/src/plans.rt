@@ -15,7 +15,7 @@ use crate::answering::{ANSWERED, Log, refuse};
 use crate::rooms::Answer;
 use arrayvec::ArrayVec;
 use pmp_core::RegFile;
-use pmp_plan::{PlanRow, SEARCH_ROOM, Security, State, append_plan, append_verdicts};
+use pmp_plan::{AskedPlan, PlanRow, SEARCH_ROOM, Security, State, append_plan, append_verdicts};
 use pmp_text::{Fault, ReadScript, Refusal, Source, read_script_in};
 
 /// The greatest number of a plan's rows.
@@ -70,7 +70,12 @@ pub fn tell_script(file: &RegFile, security: Security, plan: &[u8], answer: &mut
     answer.clear();
     let rows = &mut ArrayVec::<PlanRow<'_>, ROWS>::new();
     let room = &mut [State::new(); SEARCH_ROOM];
-    match append_plan(rows, room, file.hart(), security, plan, answer) {
+    let asked = AskedPlan {
+        hart: file.hart(),
+        security,
+        text: plan,
+    };
+    match append_plan(rows, room, asked, answer) {
         Ok(()) => {
             answer.line = 0;
             ANSWERED

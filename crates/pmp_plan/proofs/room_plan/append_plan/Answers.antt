@@ -16,12 +16,12 @@ returns-in_err-read_plan_to-clause-err g c =
 
 pub returns-in_err-writes-clause-err : goal.returns-in_err-writes-clause-err
 returns-in_err-writes-clause-err g c =
-    let are = c.in_ok-read_plan_to.ensures.ok ∙ ap (λ (rows : List PlanRow). Ok (map said rows)) (sym c.rows.ensures) in
+    let are = c.in_ok-read_plan_to.ensures.ok ∙ ap (λ (rows : List PlanRow). Ok (map said rows)) (sym c.rows-rows.ensures) in
     err_returned _ _ c.from_residual-in_err-writes.ensures.1
-    (no_script c.rows.result.now _ are
+    (no_script c.rows-rows.result.now _ are
     (inr (rw (c.reset_on-start.ensures, c.plain-aim.ensures) at c.in_err-writes.ensures.err)))
 
 pub returns-in_err-append_script-clause-err : goal.returns-in_err-append_script-clause-err
 returns-in_err-append_script-clause-err g c =
-    let are = c.in_ok-read_plan_to.ensures.ok ∙ ap (λ (rows : List PlanRow). Ok (map said rows)) (sym c.rows.ensures) in
-    err_returned _ _ c.from_residual-in_err-append_script.ensures.1 (no_script c.rows.result.now no_memory are (inl refl))
+    let are = c.in_ok-read_plan_to.ensures.ok ∙ ap (λ (rows : List PlanRow). Ok (map said rows)) (sym c.rows-rows.ensures) in
+    err_returned _ _ c.from_residual-in_err-append_script.ensures.1 (no_script c.rows-rows.result.now no_memory are (inl refl))
