@@ -25,28 +25,6 @@ pub struct Answer {
     ghost counted: { events ≡ event_count seen.value.list },
 }
 
-impl Answer {
-    fn of(
-        seen: Snapshot<Checker>,
-        access: &Access,
-        allowed: bool,
-        events: u64,
-        by_tlb: bool,
-    ) -> Answer
-        requires decided { allowed ≡ allows_at seen.value access.now }
-        requires counted { events ≡ event_count seen.value.list }
-        ensures { (result.access ≡ access.now) × (result.allowed ≡ allowed) × (result.events ≡ events) }
-    {
-        Answer {
-            access: *access,
-            allowed,
-            events,
-            by_tlb,
-            seen,
-        }
-    }
-}
-
 /// What a mode may do in a page, in the registers after the given number of events.
 #[derive(Drop)]
 struct Page {
@@ -110,6 +88,21 @@ impl Hart {
         Hart { checker, tlb }
     }
 
+    /// Returns an answer of the registers that its checker knows.
+    fn told(&self, access: &Access, allowed: bool, events: u64, by_tlb: bool) -> Answer
+        requires decided { allowed ≡ allows_at self.now access.now }
+        requires counted { events ≡ event_count self.now.list }
+        ensures { (result.access ≡ access.now) × (result.allowed ≡ allowed) × (result.events ≡ events) }
+    {
+        Answer {
+            access: *access,
+            allowed,
+            events,
+            by_tlb,
+            seen: Snapshot::of(&self.checker),
+        }
+    }
+
     /// Takes in a notice of its unit, at a remote fence.
     pub fn learn(&mut self, notice: Notice) -> Learnt
         requires { notice.unit ≡ self.old.unit }
@@ -139,7 +132,7 @@ impl Hart {
                 && (page.mode, page.start, page.events) == (access.mode, start, events)
             {
                 let allowed = page.allows(access);
-                return Answer::of(Snapshot::of(&self.checker), access, allowed, events, true);
+                return self.told(access, allowed, events, true);
             }
             if let (Some(rights), events) = self.checker.rights(access.mode, start, PAGE) {
                 let page = Page {
@@ -151,11 +144,10 @@ impl Hart {
                 };
                 let allowed = page.allows(access);
                 self.tlb[place] = Some(page);
-                return Answer::of(Snapshot::of(&self.checker), access, allowed, events, false);
+                return self.told(access, allowed, events, false);
             }
         }
         let (decision, events) = self.checker.decide(access);
-        let allowed = decision.allowed;
-        Answer::of(Snapshot::of(&self.checker), access, allowed, events, false)
+        self.told(access, decision.allowed, events, false)
     }
 }

@@ -37,13 +37,20 @@ const BEFORE: u64 = 0x80001000;
 
 type Answers = Vec<Answer>;
 
+/// How hart 0 reaches hart 1: it sends notices, and waits at the fence.
+#[derive(Drop)]
+struct Link<'a> {
+    notices: NoticeSender,
+    fence: &'a Fence,
+}
+
 /// Starts a unit, and ends it in every case.
 fn main(rt: HostRuntime) -> ExitCode {
     let Ok((mut publisher, mut checkers)) = start(&rt, rt.alloc(), 2) else {
         return ExitCode::FAILURE;
     };
     let answers = match (checkers.pop(), checkers.pop()) {
-        (Some(one), Some(zero)) => run_harts(&rt, rt.alloc(), &mut publisher, zero, one),
+        (Some(one), Some(zero)) => run_harts(&rt, &mut publisher, zero, one),
         _ => Err(ShareFault::NoPlace),
     };
     let journal = publisher.into_journal(&rt);
@@ -74,28 +81,30 @@ fn show(rt: &impl Print, events: &[Event], all: &(Answers, Answers, Answers)) ->
 }
 
 /// Runs hart 1 on a thread of its own and hart 0 meanwhile. Returns what `show` shows.
-fn run_harts<R: Threads + Wait + Copy + Send + 'static>(
+fn run_harts<R: AllocGlobal + Threads + Wait + Copy + Send + 'static>(
     rt: &R,
-    alloc: Global,
     publisher: &mut Publisher,
     zero: Checker,
     one: Checker,
 ) -> Result<(Answers, Answers, Answers), ShareFault>
     requires { (zero.unit ≡ publisher.old.unit) × (one.unit ≡ publisher.old.unit) }
 {
-    let (sender, receiver) = publisher.notice_ring(alloc, 1)?;
-    let fence = Arc::new(alloc, Fence::new())?;
-    let thread = start_one(rt, alloc, one, receiver, &fence)?;
-    let zero = run_zero(rt, alloc, zero, publisher, sender, &fence);
+    let (notices, receiver) = publisher.notice_ring(rt.alloc(), 1)?;
+    let fence = Arc::new(rt.alloc(), Fence::new())?;
+    let thread = start_one(rt, one, receiver, &fence)?;
+    let link = Link {
+        notices,
+        fence: &fence,
+    };
+    let zero = run_zero(rt, zero, publisher, link);
     let one = thread.join(rt);
     let (zero, (one, before)) = (zero?, one?);
     Ok((zero, one, before))
 }
 
 /// Starts hart 1 on a thread.
-fn start_one<R: Threads + Wait + Copy + Send + 'static>(
+fn start_one<R: AllocGlobal + Threads + Wait + Copy + Send + 'static>(
     rt: &R,
-    alloc: Global,
     checker: Checker,
     notices: NoticeReceiver,
     fence: &Arc<Fence, Global>,
@@ -105,7 +114,7 @@ fn start_one<R: Threads + Wait + Copy + Send + 'static>(
     let (runtime, fence) = (*rt, Arc::try_clone(fence)?);
     let hart = move || -> Result<(Answers, Answers), ShareFault>
         requires { notices.unit ≡ checker.unit }
-    { run_one(&runtime, alloc, checker, notices, &fence) };
+    { run_one(&runtime, checker, notices, &fence) };
     thread::spawn(rt, hart).map_err(|_| ShareFault::NoPlace)
 }
 
@@ -114,37 +123,34 @@ fn start_one<R: Threads + Wait + Copy + Send + 'static>(
 fn program<R: Wait>(
     rt: &R,
     publisher: &mut Publisher,
-    notices: &mut NoticeSender,
-    fence: &Fence,
+    link: &mut Link<'_>,
     writes: &[Event],
 ) -> Result<Fenced, ShareFault>
-    requires { notices.old.unit ≡ publisher.old.unit }
+    requires { link.old.notices.unit ≡ publisher.old.unit }
     ensures publisher { publisher.new.unit ≡ publisher.old.unit }
-    ensures notices { notices.new.unit ≡ notices.old.unit }
+    ensures notices { link.new.notices.unit ≡ link.old.notices.unit }
     ensures fenced { IfOk result (λ fenced. event_count publisher.new.published ≤ fenced.events) }
 {
     publisher.submit(&Batch::of(writes).map_err(|_| ShareFault::Full)?)?;
     let events = publisher.publish(rt)?;
-    fence.show(rt, events, notices)?;
-    let sent = notices.send(publisher.tell()?);
+    link.fence.show(rt, events, &mut link.notices)?;
+    let sent = link.notices.send(publisher.tell()?);
     sent.map_err(|_| ShareFault::NoPlace)?;
-    fence.wait(rt, events, notices)
+    link.fence.wait(rt, events, &mut link.notices)
 }
 
 /// Sets the first domain up on hart 0 and walks in it, then switches to the second and walks again.
-fn run_zero<R: Wait>(
+fn run_zero<R: AllocGlobal + Wait>(
     rt: &R,
-    alloc: Global,
     checker: Checker,
     publisher: &mut Publisher,
-    mut notices: NoticeSender,
-    fence: &Fence,
+    mut link: Link<'_>,
 ) -> Result<Answers, ShareFault>
-    requires { (notices.unit ≡ publisher.old.unit) × (checker.unit ≡ publisher.old.unit) }
+    requires { (link.notices.unit ≡ publisher.old.unit) × (checker.unit ≡ publisher.old.unit) }
 {
-    let (mut hart, mut answers) = (Hart::new(checker), Vec::new(alloc));
+    let (mut hart, mut answers) = (Hart::new(checker), Vec::new(rt.alloc()));
     for writes in [SET_UP.as_slice(), SWITCH.as_slice()] {
-        program(rt, publisher, &mut notices, fence, writes)?;
+        program(rt, publisher, &mut link, writes)?;
         hart.learn(publisher.tell()?);
         walk(&mut hart, &mut answers)?;
     }
@@ -153,51 +159,35 @@ fn run_zero<R: Wait>(
 
 /// Has hart 1 load when it sees that something was published, before a notice of it comes. Hart 1 learns each notice
 /// and then walks, until nobody sends any more. Returns the results of the walks, and the other loads.
-fn run_one<R: Wait>(
+fn run_one<R: AllocGlobal + Wait>(
     rt: &R,
-    alloc: Global,
     checker: Checker,
     mut notices: NoticeReceiver,
     fence: &Fence,
 ) -> Result<(Answers, Answers), ShareFault>
     requires { notices.unit ≡ checker.unit }
 {
-    let mut hart = Hart::new(checker);
-    let (mut walked, mut before) = (Vec::new(alloc), Vec::new(alloc));
-    follow(rt, &mut hart, &mut notices, fence, &mut walked, &mut before)?;
-    Ok((walked, before))
-}
-
-fn follow<R: Wait>(
-    rt: &R,
-    hart: &mut Hart,
-    notices: &mut NoticeReceiver,
-    fence: &Fence,
-    walked: &mut Answers,
-    before: &mut Answers,
-) -> Result<(), ShareFault>
-    requires { notices.old.unit ≡ hart.old.unit }
-{
-    let mut looked = 0;
+    let (mut hart, mut looked) = (Hart::new(checker), 0);
+    let (mut walked, mut before) = (Vec::new(rt.alloc()), Vec::new(rt.alloc()));
     for _ in rt.forever() {
         let is_last = notices.is_abandoned();
         let shown = fence.shown();
         if shown > looked {
-            before.push(load(hart, BEFORE)?)?;
-            before.push(load(hart, BEFORE)?)?;
+            before.push(load(&mut hart, BEFORE)?)?;
+            before.push(load(&mut hart, BEFORE)?)?;
             looked = shown;
             fence.look(shown);
         }
         if let Some(notice) = notices.receive() {
             let learnt = hart.learn(notice);
-            walk(hart, walked)?;
+            walk(&mut hart, &mut walked)?;
             fence.acknowledge(learnt);
         } else if is_last {
             break;
         }
         thread::yield_now();
     }
-    Ok(())
+    Ok((walked, before))
 }
 
 /// Loads eight bytes in U-mode.

@@ -3,12 +3,11 @@
 use crate::calls::{Call, learn};
 use crate::crew::{Crew, Duty};
 use crate::failure::Failure;
-use crate::filling::publish_many;
+use crate::filling::{Series, publish_many};
 use crate::meeting::Meeting;
 use crate::time::Moment;
 use crate::unit::{WRITE, publish, publish_regions};
 use pmp_share::{Batch, CHECKERS, Checker, Publisher, ShareFault, start};
-use std::alloc::Global;
 use std::io::Print;
 use std::sync::Wait;
 use std::thread::Threads;
@@ -37,10 +36,22 @@ const NOTICES: u32 = 100_000;
 /// Two times in tenths of a nanosecond.
 type Times = (u64, u64);
 
+/// So many checkers that make a call at once, and whether batches are published meanwhile.
+#[derive(Clone, Copy)]
+struct Crowd {
+    checkers: u8,
+    call: Call,
+    publishes: bool,
+}
+
 /// The times of a publication of one event while nobody decides, and of a notice that is told and learnt.
-fn time_publisher<R: Clock + Wait>(rt: &R, alloc: Global) -> Result<Times, Failure> {
-    let batch = Batch::of(&[WRITE])?;
-    let (mut publisher, mut checkers) = start(rt, alloc, 1)?;
+fn time_publisher<R: AllocGlobal + Clock + Wait>(rt: &R) -> Result<Times, Failure> {
+    let series = Series {
+        batch: Batch::of(&[WRITE])?,
+        times: PUBLICATIONS,
+        together: false,
+    };
+    let (mut publisher, mut checkers) = start(rt, rt.alloc(), 1)?;
     let opened = publish_regions(rt, &mut publisher);
     let since = Moment::now(rt);
     let told = match checkers.pop() {
@@ -49,7 +60,7 @@ fn time_publisher<R: Clock + Wait>(rt: &R, alloc: Global) -> Result<Times, Failu
     };
     let notice = since.each(rt, NOTICES);
     let since = Moment::now(rt);
-    let published = publish_many(rt, &mut publisher, &batch, PUBLICATIONS, false);
+    let published = publish_many(rt, &mut publisher, &series);
     let publication = since.each(rt, PUBLICATIONS);
     publisher.end(rt);
     opened?;
@@ -76,14 +87,13 @@ fn publish_writes<R: Clock + Wait>(
 }
 
 /// Gives each checker a thread on which it makes the calls.
-fn send_all<R: Clock + Threads + Wait + Copy + Send + 'static>(
+fn send_all<R: AllocGlobal + Clock + Threads + Wait + Copy + Send + 'static>(
     rt: &R,
-    alloc: Global,
     checkers: Vec<Checker>,
     call: Call,
 ) -> Result<Crew, Failure> {
     let count = checkers.len();
-    let mut crew = Crew::new(alloc, Meeting::new(count.wrapping_add(1), count, 0))?;
+    let mut crew = Crew::new(rt.alloc(), Meeting::new(count.wrapping_add(1), count, 0))?;
     for checker in checkers {
         crew.send(rt, checker, Duty::Calls(call))?;
     }
@@ -100,18 +110,16 @@ fn longest<R: Threads>(rt: &R, crew: Crew) -> Result<u64, Failure> {
     Ok(time)
 }
 
-fn time_crowd_of<R: Clock + Threads + Wait + Copy + Send + 'static>(
+fn time_crowd_of<R: AllocGlobal + Clock + Threads + Wait + Copy + Send + 'static>(
     rt: &R,
-    alloc: Global,
     publisher: &mut Publisher,
     checkers: Vec<Checker>,
-    call: Call,
-    publishes: bool,
+    crowd: Crowd,
 ) -> Result<Times, Failure> {
     publish_regions(rt, publisher)?;
-    let crew = send_all(rt, alloc, checkers, call)?;
+    let crew = send_all(rt, checkers, crowd.call)?;
     crew.meeting.wait(rt);
-    let publication = if publishes {
+    let publication = if crowd.publishes {
         publish_writes(rt, publisher, &crew.meeting)?
     } else {
         u64::MAX
@@ -120,30 +128,24 @@ fn time_crowd_of<R: Clock + Threads + Wait + Copy + Send + 'static>(
 }
 
 /// The times of a call by each of one to eight checkers at once, and of a publication meanwhile, if there are any.
-fn time_crowd<R: Clock + Threads + Wait + Copy + Send + 'static>(
+fn time_crowd<R: AllocGlobal + Clock + Threads + Wait + Copy + Send + 'static>(
     rt: &R,
-    alloc: Global,
-    checkers: u8,
-    call: Call,
-    publishes: bool,
+    crowd: Crowd,
 ) -> Result<Times, Failure> {
-    let (mut publisher, checkers) = start(rt, alloc, checkers.clamp(1, CHECKERS))?;
-    let times = time_crowd_of(rt, alloc, &mut publisher, checkers, call, publishes);
+    let (mut publisher, checkers) = start(rt, rt.alloc(), crowd.checkers.clamp(1, CHECKERS))?;
+    let times = time_crowd_of(rt, &mut publisher, checkers, crowd);
     publisher.end(rt);
     times
 }
 
 /// The least times of so many rounds.
-fn least_of_crowd<R: Clock + Threads + Wait + Copy + Send + 'static>(
+fn least_of_crowd<R: AllocGlobal + Clock + Threads + Wait + Copy + Send + 'static>(
     rt: &R,
-    alloc: Global,
-    checkers: u8,
-    call: Call,
-    publishes: bool,
+    crowd: Crowd,
 ) -> Result<Times, Failure> {
     let mut least = (u64::MAX, u64::MAX);
     for _ in 0..ROUNDS {
-        let times = time_crowd(rt, alloc, checkers, call, publishes)?;
+        let times = time_crowd(rt, crowd)?;
         least = (least.0.min(times.0), least.1.min(times.1));
     }
     Ok(least)
@@ -156,47 +158,55 @@ fn print_time<R: Print>(rt: &R, threads: u8, what: &str, tenths: u64) -> Result<
     Ok(())
 }
 
-fn bench_calls<R: Clock + Threads + Wait + Print + Copy + Send + 'static>(
+fn bench_calls<R: AllocGlobal + Clock + Threads + Wait + Print + Copy + Send + 'static>(
     rt: &R,
-    alloc: Global,
 ) -> Result<(), Failure> {
     for (what, call) in TIMED {
-        let (time, _) = least_of_crowd(rt, alloc, 1, call, false)?;
+        let alone = Crowd {
+            checkers: 1,
+            call,
+            publishes: false,
+        };
+        let (time, _) = least_of_crowd(rt, alone)?;
         print_time(rt, 1, what, time)?;
     }
     Ok(())
 }
 
-fn bench_publisher<R: Clock + Wait + Print>(rt: &R, alloc: Global) -> Result<(), Failure> {
+fn bench_publisher<R: AllocGlobal + Clock + Wait + Print>(rt: &R) -> Result<(), Failure> {
     let mut least = (u64::MAX, u64::MAX);
     for _ in 0..ROUNDS {
-        let times = time_publisher(rt, alloc)?;
+        let times = time_publisher(rt)?;
         least = (least.0.min(times.0), least.1.min(times.1));
     }
     print_time(rt, 1, "a publication", least.0)?;
     print_time(rt, 1, "tell and learn", least.1)
 }
 
-fn bench_crowd<R: Clock + Threads + Wait + Print + Copy + Send + 'static>(
+fn bench_crowd<R: AllocGlobal + Clock + Threads + Wait + Print + Copy + Send + 'static>(
     rt: &R,
-    alloc: Global,
     checkers: u8,
 ) -> Result<(), Failure> {
-    let (quiet, _) = least_of_crowd(rt, alloc, checkers, Call::Decision, false)?;
+    let mut crowd = Crowd {
+        checkers,
+        call: Call::Decision,
+        publishes: false,
+    };
+    let (quiet, _) = least_of_crowd(rt, crowd)?;
     print_time(rt, checkers, "a decision", quiet)?;
-    let (busy, publication) = least_of_crowd(rt, alloc, checkers, Call::Decision, true)?;
+    crowd.publishes = true;
+    let (busy, publication) = least_of_crowd(rt, crowd)?;
     print_time(rt, checkers, "a decision while it publishes", busy)?;
     print_time(rt, checkers, "a publication meanwhile", publication)
 }
 
-pub fn bench<R: Clock + Threads + Wait + Print + Copy + Send + 'static>(
+pub fn bench<R: AllocGlobal + Clock + Threads + Wait + Print + Copy + Send + 'static>(
     rt: &R,
-    alloc: Global,
 ) -> Result<(), Failure> {
-    bench_calls(rt, alloc)?;
-    bench_publisher(rt, alloc)?;
+    bench_calls(rt)?;
+    bench_publisher(rt)?;
     for checkers in 1..=4 {
-        bench_crowd(rt, alloc, checkers)?;
+        bench_crowd(rt, checkers)?;
     }
     Ok(())
 }

@@ -64,9 +64,8 @@ fn make_calls<R: Clock + Wait>(
     }
 }
 
-fn serve<R: Clock + Wait>(
+fn serve<R: AllocGlobal + Clock + Wait>(
     rt: &R,
-    alloc: Global,
     mut checker: Checker,
     duty: Duty,
     meeting: &Meeting,
@@ -81,14 +80,14 @@ fn serve<R: Clock + Wait>(
             Done {
                 outcome,
                 time,
-                answers: Vec::new(alloc),
+                answers: Vec::new(rt.alloc()),
                 checker: None,
             }
         }
         Duty::Questions(source, comes_back) => {
             let mut asked = Asked {
                 checker,
-                answers: Vec::new(alloc),
+                answers: Vec::new(rt.alloc()),
                 source,
             };
             let mut outcome = asked.ask_freely(meeting);
@@ -115,15 +114,14 @@ impl Crew {
     }
 
     /// Gives the checker a thread.
-    pub fn send<R: Clock + Threads + Wait + Copy + Send + 'static>(
+    pub fn send<R: AllocGlobal + Clock + Threads + Wait + Copy + Send + 'static>(
         &mut self,
         rt: &R,
         checker: Checker,
         duty: Duty,
     ) -> Result<(), Failure> {
-        let (runtime, alloc) = (*rt, self.alloc);
-        let meeting = Arc::try_clone(&self.meeting)?;
-        let thread = move || serve(&runtime, alloc, checker, duty, &meeting);
+        let (runtime, meeting) = (*rt, Arc::try_clone(&self.meeting)?);
+        let thread = move || serve(&runtime, checker, duty, &meeting);
         match thread::spawn(rt, thread) {
             Ok(thread) => Ok(self.threads.push(thread)?),
             Err(_) => Err(Failure::Thread),

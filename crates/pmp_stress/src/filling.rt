@@ -5,13 +5,20 @@ use crate::soak::print_counts;
 use crate::time::Moment;
 use pmp_core::{Csr, Event};
 use pmp_share::{Batch, Publisher, ShareFault, start};
-use std::alloc::Global;
 use std::io::Print;
 use std::sync::Wait;
 use std::time::Clock;
 
 /// The number of further batches that are timed.
 const FURTHER: u32 = 1_000;
+
+/// A batch that is published so many times, one by one or together.
+#[derive(Drop)]
+pub struct Series {
+    pub batch: Batch,
+    pub times: u32,
+    pub together: bool,
+}
 
 /// Returns the given number of equal writes, at most 64.
 fn writes(events: u32) -> Result<Batch, Failure> {
@@ -22,22 +29,20 @@ fn writes(events: u32) -> Result<Batch, Failure> {
     Ok(batch)
 }
 
-/// Publishes the batch `times` times, one by one or together, or until there is no room. Returns how many times it did.
+/// Publishes a series, or as much of it as there is room for. Returns how many times it did.
 pub fn publish_many<R: Wait>(
     rt: &R,
     publisher: &mut Publisher,
-    batch: &Batch,
-    times: u32,
-    together: bool,
+    series: &Series,
 ) -> Result<u32, ShareFault> {
     let mut submitted = 0;
-    for done in 0..times {
-        match publisher.submit(batch) {
+    for done in 0..series.times {
+        match publisher.submit(&series.batch) {
             Err(ShareFault::Full) => break,
             outcome => outcome?,
         }
         submitted = done + 1;
-        if !together {
+        if !series.together {
             publisher.publish(rt)?;
         }
     }
@@ -47,20 +52,28 @@ pub fn publish_many<R: Wait>(
 
 /// Publishes the given number of batches of the given number of events in a unit, and then further ones of one event,
 /// one by one, until there is no room.
-pub fn fill<R: Clock + Wait + Print>(
+pub fn fill<R: AllocGlobal + Clock + Wait + Print>(
     rt: &R,
-    alloc: Global,
     batches: u32,
     events: u32,
     together: bool,
 ) -> Result<(), Failure> {
-    let (batch, one) = (writes(events)?, writes(1)?);
-    let (mut publisher, _checkers) = start(rt, alloc, 1)?;
+    let first = Series {
+        batch: writes(events)?,
+        times: batches,
+        together,
+    };
+    let further = Series {
+        batch: writes(1)?,
+        times: FURTHER,
+        together: false,
+    };
+    let (mut publisher, _checkers) = start(rt, rt.alloc(), 1)?;
     let since = Moment::now(rt);
-    let count = publish_many(rt, &mut publisher, &batch, batches, together);
+    let count = publish_many(rt, &mut publisher, &first);
     let whole = since.nanoseconds(rt);
     let since = Moment::now(rt);
-    let further = publish_many(rt, &mut publisher, &one, FURTHER, false);
+    let further = publish_many(rt, &mut publisher, &further);
     let rest = since.nanoseconds(rt);
     publisher.end(rt);
     let counts = [

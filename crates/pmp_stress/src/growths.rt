@@ -6,17 +6,16 @@ mod unit;
 mod worked;
 
 use case::{CASES, try_once};
-use std::alloc::Global;
 use std::io::{Eprint, Print};
 use std::sync::Wait;
 use stop::{Stop, Tried};
 
 /// Tries the case with this name, or all without one. The status is that of the last one that isn't correct.
-pub fn try_cases<R: Wait + Print + Eprint>(rt: &R, alloc: Global, asked: &str) -> u8 {
+pub fn try_cases<R: AllocGlobal + Wait + Print + Eprint>(rt: &R, asked: &str) -> u8 {
     let mut status = 0;
     for &case in &CASES {
         if asked.is_empty() || asked == case {
-            let left = tell(rt, case, try_once(case, rt, alloc));
+            let left = tell(rt, case, try_once(case, rt));
             if left != 0 {
                 status = left;
             }

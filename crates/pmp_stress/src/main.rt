@@ -59,14 +59,14 @@ fn main(rt: HostRuntime) -> ExitCode {
     let (asked, second, third) = (words.nth(1), words.next(), words.next());
     let (some, more) = (number(&second, 0), number(&third, 1));
     let ended = match text(&asked) {
-        "growths" => return ExitCode::from(try_cases(&rt, rt.alloc(), text(&second))),
-        "bench" => bench(&rt, rt.alloc()),
-        "fill" => fill(&rt, rt.alloc(), some, more, words.next().is_some()),
-        _ => soak(&rt, rt.alloc(), some, more),
+        "growths" => return ExitCode::from(try_cases(&rt, text(&second))),
+        "bench" => bench(&rt),
+        "fill" => fill(&rt, some, more, words.next().is_some()),
+        _ => soak(&rt, some, more),
     };
     match ended {
         Ok(()) if asked.is_some() => ExitCode::SUCCESS,
-        Ok(()) => ExitCode::from(try_cases(&rt, rt.alloc(), "")),
+        Ok(()) => ExitCode::from(try_cases(&rt, "")),
         Err(failure) => fail(&rt, failure),
     }
 }

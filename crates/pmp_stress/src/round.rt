@@ -63,7 +63,7 @@ impl Round {
     }
 
     /// Sends the checkers out; `leaving` of them don't return.
-    fn send_out<R: Clock + Threads + Wait + Copy + Send + 'static>(
+    fn send_out<R: AllocGlobal + Clock + Threads + Wait + Copy + Send + 'static>(
         &mut self,
         rt: &R,
         publisher: &Publisher,
@@ -126,7 +126,7 @@ impl Round {
     }
 
     /// Publishes while the checkers are asked, and compares what those that return copy.
-    fn stretch<R: Clock + Threads + Wait + Copy + Send + 'static>(
+    fn stretch<R: AllocGlobal + Clock + Threads + Wait + Copy + Send + 'static>(
         &mut self,
         rt: &R,
         publisher: &mut Publisher,
@@ -142,7 +142,7 @@ impl Round {
 
     /// Runs all stretches; in the last but one a checker doesn't return. Then the others are asked, and a reset is
     /// pending.
-    fn run<R: Clock + Threads + Wait + Copy + Send + 'static>(
+    fn run<R: AllocGlobal + Clock + Threads + Wait + Copy + Send + 'static>(
         &mut self,
         rt: &R,
         publisher: &mut Publisher,
@@ -166,18 +166,17 @@ impl Round {
 
 /// Runs a unit of its own. The publisher ends with the reset pending while the checkers are asked: none sees it, and
 /// the journal doesn't have it.
-pub fn run_round<R: Clock + Threads + Wait + Copy + Send + 'static>(
+pub fn run_round<R: AllocGlobal + Clock + Threads + Wait + Copy + Send + 'static>(
     rt: &R,
-    alloc: Global,
     mut source: Source,
     tally: Tally,
 ) -> Result<Tally, Failure> {
     let base = source.base()?;
-    let (mut publisher, checkers) = start_from(rt, alloc, &base.save(), CHECKERS)?;
+    let (mut publisher, checkers) = start_from(rt, rt.alloc(), &base.save(), CHECKERS)?;
     let mut round = Round {
-        alloc,
+        alloc: rt.alloc(),
         source,
-        published: Published::new(alloc, base),
+        published: Published::new(rt.alloc(), base),
         tally,
     };
     let crew = round.run(rt, &mut publisher, checkers);

@@ -6,7 +6,6 @@ use crate::round::run_round;
 use crate::source::{Source, Swap};
 use crate::time::Moment;
 use pmp_core::Size;
-use std::alloc::Global;
 use std::io::Print;
 use std::sync::Wait;
 use std::thread::Threads;
@@ -42,9 +41,8 @@ pub fn print_counts<R: Print>(rt: &R, counts: &[(u64, &str)]) -> Result<(), Fail
 
 /// Runs units that swap nothing, and units of both sizes that do, until so many seconds are over. Prints what came of it:
 /// of no seconds what is the same on each machine.
-pub fn soak<R: Clock + Threads + Wait + Print + Copy + Send + 'static>(
+pub fn soak<R: AllocGlobal + Clock + Threads + Wait + Print + Copy + Send + 'static>(
     rt: &R,
-    alloc: Global,
     seconds: u32,
     seed: u32,
 ) -> Result<(), Failure> {
@@ -54,7 +52,7 @@ pub fn soak<R: Clock + Threads + Wait + Print + Copy + Send + 'static>(
     for _ in 0..u64::MAX {
         for swap in [None, Some(Swap(Size::Sixteen)), Some(Swap(Size::SixtyFour))] {
             let random = random.branch();
-            tally = run_round(rt, alloc, Source { random, swap }, tally)?;
+            tally = run_round(rt, Source { random, swap }, tally)?;
         }
         if since.nanoseconds(rt) / 1_000_000_000 >= u64::from(seconds) {
             break;

@@ -2,7 +2,6 @@
 
 use pmp_audit::{AuditSummary, audit_long, audit_whole};
 use pmp_text::{Fault, Place, Refusal, Source};
-use std::alloc::Global;
 use std::thread::Threads;
 
 /// One publication: entry 0 lets all modes read a page.
@@ -32,14 +31,14 @@ const LONG_LINE: Fault = Fault {
 };
 
 /// Returns the result and the report of an audit with pieces of at most `limit` bytes and `jobs` of them at a time.
-fn audit_by_pieces<R: Threads + Sync>(
+fn audit_by_pieces<R: AllocGlobal + Threads + Sync>(
     rt: &R,
-    alloc: Global,
     jobs: usize,
     limit: usize,
     trace: &[u8],
 ) -> (Result<AuditSummary, Fault>, Vec<u8>) {
     let mut reader = trace;
+    let alloc = rt.alloc();
     let mut report = Vec::new(alloc);
     let answer = audit_long(rt, alloc, jobs, SCRIPT, 1, limit, &mut reader, &mut report);
     (answer, report)
@@ -58,7 +57,7 @@ fn cuts_show_nowhere(rt: HostRuntime) {
     let wanted = audit_whole(rt.alloc(), SCRIPT, TRACE, &mut whole);
     for limit in 1..TRACE.len() + 3 {
         for jobs in [1, 3] {
-            let (answer, report) = audit_by_pieces(&rt, rt.alloc(), jobs, limit, TRACE);
+            let (answer, report) = audit_by_pieces(&rt, jobs, limit, TRACE);
             if limit < ROOM && answer == Err(LONG_LINE) {
                 assert!(rt; are_rows_of(&report, &whole));
             } else {
@@ -78,7 +77,7 @@ fn order_goes_over_cuts(rt: HostRuntime) {
     assert!(rt; sound.is_ok());
     for limit in ROOM..FALLING.len() + 3 {
         for jobs in [1, 3] {
-            let (answer, report) = audit_by_pieces(&rt, rt.alloc(), jobs, limit, FALLING);
+            let (answer, report) = audit_by_pieces(&rt, jobs, limit, FALLING);
             assert!(rt; answer == Err(order));
             assert!(rt; are_rows_of(&report, &whole));
         }

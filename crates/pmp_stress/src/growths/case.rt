@@ -3,7 +3,7 @@
 ghost use Rattle.std.specs.Prelude.{◌≡◌, ◌+◌, ◌<◌};
 
 use crate::growths::stop::{Stop, Tried};
-use crate::growths::unit::{goes_on, is_notice_of, submit_all};
+use crate::growths::unit::{Unit, is_notice_of, submit_all};
 use crate::growths::worked::{batch, decision_after, events, file_after, is_journal_of, page_load};
 use pmp_core::{Access, Csr, Mode, Perms};
 use pmp_share::{Checker, GROUP_ACCESSES, Notice, Publisher, ShareFault, start, start_from};
@@ -49,20 +49,19 @@ fn decides_group(checker: &mut Checker, page: Access) -> bool {
 }
 
 /// Starts a unit as the case says.
-fn starts<R: Wait>(case: &str, rt: &R, alloc: Global) -> Result<bool, ShareFault> {
+fn starts<R: AllocGlobal + Wait>(case: &str, rt: &R) -> Result<bool, ShareFault> {
     let unit = if case == "start" {
-        start(rt, alloc, 2)?
+        start(rt, rt.alloc(), 2)?
     } else {
-        start_from(rt, alloc, &file_after(1).save(), 2)?
+        start_from(rt, rt.alloc(), &file_after(1).save(), 2)?
     };
     Ok(is_new(rt, unit))
 }
 
 /// Makes the call of a case of the publisher.
-fn publishes<R: Wait>(
+fn publishes<R: AllocGlobal + Wait>(
     case: &str,
     rt: &R,
-    alloc: Global,
     publisher: &mut Publisher,
 ) -> Result<bool, ShareFault> {
     match case {
@@ -76,7 +75,7 @@ fn publishes<R: Wait>(
         },
         "publish" => Ok(publisher.publish(rt)? == events(6)),
         "tell" => Ok(is_notice_of(&publisher.tell()?, 2)),
-        _ => rings(alloc, publisher),
+        _ => rings(rt.alloc(), publisher),
     }
 }
 
@@ -113,22 +112,20 @@ fn asks(case: &str, checker: &mut Checker) -> bool {
 
 /// Makes the call of a case, on a unit with two batches published and four pending, which the notice is of. Whether its
 /// answer is right.
-fn call<R: Wait>(
+fn call<R: AllocGlobal + Wait>(
     case: &str,
     rt: &R,
-    alloc: Global,
-    publisher: &mut Publisher,
-    checker: &mut Checker,
+    unit: &mut Unit,
     notice: Notice,
 ) -> Result<bool, ShareFault>
-    requires { checker.old.unit ≡ notice.unit }
+    requires { unit.old.checker.unit ≡ notice.unit }
 {
     match case {
-        "start" | "start_from" => starts(case, rt, alloc),
-        "submit" | "publish" | "tell" | "notice_ring" => publishes(case, rt, alloc, publisher),
-        "copy_journal" => Ok(is_journal_of(&checker.copy_journal()?, 2)),
-        "learn" | "decide_at" => Ok(learns(case, checker, notice)),
-        _ => Ok(asks(case, checker)),
+        "start" | "start_from" => starts(case, rt),
+        "submit" | "publish" | "tell" | "notice_ring" => publishes(case, rt, &mut unit.publisher),
+        "copy_journal" => Ok(is_journal_of(&unit.checker.copy_journal()?, 2)),
+        "learn" | "decide_at" => Ok(learns(case, &mut unit.checker, notice)),
+        _ => Ok(asks(case, &mut unit.checker)),
     }
 }
 
@@ -144,27 +141,21 @@ fn left(case: &str) -> (u8, u8)
 }
 
 /// A refused call has to leave the unit as it was, and no call may be refused behind it.
-fn try_on<R: Wait>(
-    case: &str,
-    rt: &R,
-    alloc: Global,
-    publisher: &mut Publisher,
-    checker: &mut Checker,
-) -> Tried
-    requires { checker.old.unit ≡ publisher.old.unit }
+fn try_on<R: AllocGlobal + Wait>(case: &str, rt: &R, unit: &mut Unit) -> Tried
+    requires { unit.old.checker.unit ≡ unit.old.publisher.unit }
 {
-    publisher.submit(&batch(0)?)?;
-    publisher.submit(&batch(1)?)?;
-    publisher.publish(rt)?;
-    let notice = publisher.tell()?;
-    submit_all(publisher, 2, 6)?;
-    match call(case, rt, alloc, publisher, checker, notice) {
+    unit.publisher.submit(&batch(0)?)?;
+    unit.publisher.submit(&batch(1)?)?;
+    unit.publisher.publish(rt)?;
+    let notice = unit.publisher.tell()?;
+    submit_all(&mut unit.publisher, 2, 6)?;
+    match call(case, rt, unit, notice) {
         Ok(true) => {
             let (published, pending) = left(case);
-            goes_on(rt, publisher, checker, published, pending)
+            unit.goes_on(rt, published, pending)
         }
         Ok(false) => Err(Stop::Wrong("the answer")),
-        Err(ShareFault::Memory) => match goes_on(rt, publisher, checker, 2, 4) {
+        Err(ShareFault::Memory) => match unit.goes_on(rt, 2, 4) {
             Ok(()) => Err(Stop::Refused),
             Err(Stop::Outside) => Err(Stop::Wrong("a second refusal")),
             Err(stop) => Err(stop),
@@ -174,12 +165,18 @@ fn try_on<R: Wait>(
 }
 
 /// Tries the call of a case on a unit of its own, which is ended on every outcome.
-pub fn try_once<R: Wait>(case: &str, rt: &R, alloc: Global) -> Tried {
-    let (mut publisher, mut checkers) = start(rt, alloc, 1)?;
-    let tried = match checkers.pop() {
-        Some(mut checker) => try_on(case, rt, alloc, &mut publisher, &mut checker),
-        None => Err(Stop::Wrong("no checker")),
+pub fn try_once<R: AllocGlobal + Wait>(case: &str, rt: &R) -> Tried {
+    let (publisher, mut checkers) = start(rt, rt.alloc(), 1)?;
+    let Some(checker) = checkers.pop() else {
+        publisher.end(rt);
+        return Err(Stop::Wrong("no checker"));
     };
+    let mut unit = Unit { publisher, checker };
+    let tried = try_on(case, rt, &mut unit);
+    let Unit {
+        publisher,
+        checker: _,
+    } = unit;
     publisher.end(rt);
     tried
 }

@@ -19,37 +19,39 @@ pub fn is_notice_of(notice: &Notice, batches: u8) -> bool {
     notice.len() == events(batches) && notice.file() == file_after(batches)
 }
 
-/// The unit has just the first batches published, and so many behind them pending.
-fn stands(publisher: &mut Publisher, checker: &mut Checker, published: u8, pending: u8) -> Tried {
-    let counts = (publisher.journal_len(), publisher.pending_len());
-    expect(
-        counts == (events(published), events(pending)),
-        "how many events",
-    )?;
-    expect(is_notice_of(&publisher.tell()?, published), "a notice")?;
-    let decided = checker.decide(&page_load()?);
-    expect(
-        decided == (decision_after(published), events(published)),
-        "a decision",
-    )?;
-    expect(
-        is_journal_of(&checker.copy_journal()?, published),
-        "the journal",
-    )
+/// A publisher and the one checker of its unit.
+pub struct Unit {
+    pub publisher: Publisher,
+    pub checker: Checker,
 }
 
-/// So it stands, and publishes what is pending.
-pub fn goes_on<R: Wait>(
-    rt: &R,
-    publisher: &mut Publisher,
-    checker: &mut Checker,
-    published: u8,
-    pending: u8,
-) -> Tried
-    requires { published + pending < 256 }
-{
-    stands(publisher, checker, published, pending)?;
-    let all = published + pending;
-    expect(publisher.publish(rt)? == events(all), "publish again")?;
-    stands(publisher, checker, all, 0)
+impl Unit {
+    /// The unit has just the first batches published, and so many behind them pending.
+    fn stands(&mut self, published: u8, pending: u8) -> Tried {
+        let counts = (self.publisher.journal_len(), self.publisher.pending_len());
+        expect(
+            counts == (events(published), events(pending)),
+            "how many events",
+        )?;
+        expect(is_notice_of(&self.publisher.tell()?, published), "a notice")?;
+        let decided = self.checker.decide(&page_load()?);
+        expect(
+            decided == (decision_after(published), events(published)),
+            "a decision",
+        )?;
+        expect(
+            is_journal_of(&self.checker.copy_journal()?, published),
+            "the journal",
+        )
+    }
+
+    /// So it stands, and publishes what is pending.
+    pub fn goes_on<R: Wait>(&mut self, rt: &R, published: u8, pending: u8) -> Tried
+        requires { published + pending < 256 }
+    {
+        self.stands(published, pending)?;
+        let all = published + pending;
+        expect(self.publisher.publish(rt)? == events(all), "publish again")?;
+        self.stands(all, 0)
+    }
 }

@@ -25,22 +25,28 @@ fn ask(checker: &mut Checker, notice: Notice, access: &Access) -> Result<Decisio
     checker.decide_at(len, access)
 }
 
+/// Notices, one for each of two checkers.
+#[derive(Drop)]
+pub struct Told {
+    pub first: Notice,
+    pub second: Notice,
+}
+
 /// Both decide an access in just the batches that both were told of, in units that began with the same register file:
 /// alike, where neither has moved on.
 pub fn ask_both(
     first: &mut Checker,
     second: &mut Checker,
-    to_first: Notice,
-    to_second: Notice,
+    to: Told,
     access: &Access,
 ) -> (Result<Decision, Moved>, Result<Decision, Moved>)
-    requires units { (to_first.unit ≡ first.old.unit) × (to_second.unit ≡ second.old.unit) }
-    requires base { to_second.unit.base ≡ to_first.unit.base }
-    requires told { to_second.list ≡ to_first.list }
+    requires units { (to.first.unit ≡ first.old.unit) × (to.second.unit ≡ second.old.unit) }
+    requires base { to.second.unit.base ≡ to.first.unit.base }
+    requires told { to.second.list ≡ to.first.list }
     ensures units { (first.new.unit ≡ first.old.unit) × (second.new.unit ≡ second.old.unit) }
     ensures alike { IfOk result.0 (λ one. IfOk result.1 (λ other. other ≡ one)) }
 {
-    (ask(first, to_first, access), ask(second, to_second, access))
+    (ask(first, to.first, access), ask(second, to.second, access))
 }
 
 /// An empty batch moves neither on. Where events are published that they weren't told of, both answer how many there

@@ -3,7 +3,7 @@
 ghost use Rattle.std.specs.Prelude.{◌≡◌};
 ghost use Rattle.pmp_share.specs.Known.{known};
 
-use super::asking::ask_both;
+use super::asking::{Told, ask_both};
 use pmp_core::{Access, Cause, Decision, Event, Kind, Mode};
 use pmp_share::{Batch, Checker, Journal, Moved, Notice, Publisher, start};
 use std::alloc::Global;
@@ -143,12 +143,13 @@ impl Unit {
         count: u64,
         answer: Result<Decision, Moved>,
     ) {
-        let to_first = tell(rt, &mut self.publisher);
-        let to_second = tell(rt, &mut self.publisher);
+        let told = Told {
+            first: tell(rt, &mut self.publisher),
+            second: tell(rt, &mut self.publisher),
+        };
         publish(rt, &mut self.publisher, events, count);
         let access = page_load(rt);
-        let (first, second) = (&mut self.first, &mut self.second);
-        let (one, other) = ask_both(first, second, to_first, to_second, &access);
+        let (one, other) = ask_both(&mut self.first, &mut self.second, told, &access);
         assert!(rt; one == answer && other == answer);
     }
 

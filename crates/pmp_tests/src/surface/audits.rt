@@ -5,7 +5,6 @@ use pmp_audit::{AuditFault, Gate, OpenGate, Summary, audit, audit_shared, check,
 use pmp_core::Decision;
 use pmp_share::{Moved, ShareFault};
 use pmp_text::{ScriptFault, TraceFault};
-use std::alloc::Global;
 use std::sync::Wait;
 use std::test::Fail;
 use std::thread::Threads;
@@ -32,16 +31,15 @@ fn number_of(fault: AuditFault) -> (u8, u64) {
 }
 
 /// Audits the trace by so many workers, or on one thread.
-fn audit_by<R: Threads + Wait + Sync, G: Gate + Sync>(
+fn audit_by<R: AllocGlobal + Threads + Wait + Sync, G: Gate + Sync>(
     rt: &R,
-    alloc: Global,
     gate: &G,
     k: Option<u8>,
     out: &mut Vec<u8>,
 ) -> Result<Summary, AuditFault> {
     match k {
-        Some(k) if k >= 1 && k <= 8 => audit_shared(rt, alloc, gate, k, SCRIPT, TRACE, out),
-        _ => audit(alloc, SCRIPT, TRACE, out),
+        Some(k) if k >= 1 && k <= 8 => audit_shared(rt, rt.alloc(), gate, k, SCRIPT, TRACE, out),
+        _ => audit(rt.alloc(), SCRIPT, TRACE, out),
     }
 }
 
@@ -49,7 +47,7 @@ fn audit_by<R: Threads + Wait + Sync, G: Gate + Sync>(
 fn audits_answer(rt: HostRuntime) {
     for k in [None, Some(1), Some(2), Some(8)] {
         let mut out = Vec::new(rt.alloc());
-        let Summary { rows, faults } = audit_by(&rt, rt.alloc(), &OpenGate, k, &mut out)
+        let Summary { rows, faults } = audit_by(&rt, &OpenGate, k, &mut out)
             .ok()
             .expect(&rt, "a report");
         assert!(rt; rows == 4 && faults == 2 && out.as_slice() == REPORT);

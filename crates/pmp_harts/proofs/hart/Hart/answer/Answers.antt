@@ -8,7 +8,7 @@ use Rattle.pmp_harts.specs.Tlb.{IsBehind}
 use Rattle.pmp_harts.specs.Pages.{allows_at}
 use Rattle.pmp_harts.proofs.Behind.{GoesOn, goes_on_twice, stay_behind, same_file, filled}
 use Rattle.pmp_harts.proofs.hart.Hart.answer.Goals as goal
-use Rattle.pmp_harts.proofs.hart.Hart.answer.Goals.{After-count-events, After-of, After-rights, After-decide-events}
+use Rattle.pmp_harts.proofs.hart.Hart.answer.Goals.{After-count-events, After-allows-allowed, After-rights, After-decide-events}
 use Rattle.pmp_harts.proofs.hart.Hart.answer.Goals.{then-access-start+in_default+in_default-2, else-access-start}
 
 -- ---- the checker
@@ -38,23 +38,22 @@ decided c = goes_on_twice c.self.inside.checker c.if-access-start.self-inside.ch
 
 -- ---- by the TLB
 
-held : (c : After-of) → IsBehind c.self.inside.checker c.in-Some.page
+held : (c : After-allows-allowed) → IsBehind c.self.inside.checker c.in-Some.page
 held c = subst (λ place. IfSome place (IsBehind c.self.inside.checker)) c.in-Some.is
     (c.self.invariant _ c.index-self-place.result (search rules))
 
-events : (c : After-of) → c.in-Some.page.events ≡ c.count-events.result
+events : (c : After-allows-allowed) → c.in-Some.page.events ≡ c.count-events.result
 events c = search rules
 
-by_page : (c : After-of) → c.allows-allowed.result ≡ allows_at c.count-events.new.self c.args.access.now
+by_page : (c : After-allows-allowed) → c.allows-allowed.result ≡ allows_at c.count-events.new.self c.args.access.now
 by_page c =
     let file : file_of c.count-events.new.self ≡ file_of c.in-Some.page.seen.value =
     same_file _ _ (c.count-events.ensures.look.unit, c.count-events.ensures.look.begins) c.law_same_events.ensures
     c.in-Some.page (held c) (sym c.count-events.ensures.look.count ∙ sym (events c) ∙ c.in-Some.page.counted) in
     c.allows-allowed.ensures ∙ ap (λ file. (decision_of file c.args.access.now).allowed) (sym file)
 
-pub of-requires-then-access-start-clause-decided : goal.of-requires-then-access-start-clause-decided
-of-requires-then-access-start-clause-decided c =
-    by_page c ∙ ap (λ checker. allows_at checker c.args.access.now) (sym c.of.ensures)
+pub told-requires-clause-decided : goal.told-requires-clause-decided
+told-requires-clause-decided c = by_page c
 
 pub invariant_of-self : goal.invariant_of-self
 invariant_of-self c = stay_behind _ _ (counted (goal.at.invariant_of-self c).After-count-events) _ c.self.invariant
@@ -66,13 +65,13 @@ returns-then-access-start-clause-begins c =
 
 pub returns-then-access-start-clause-decided : goal.returns-then-access-start-clause-decided
 returns-then-access-start-clause-decided c =
-    c.of-then-access-start.ensures.1 ∙ by_page (goal.at.returns-then-access-start-clause-decided c).After-of
+    c.told.ensures.1 ∙ by_page (goal.at.returns-then-access-start-clause-decided c).After-allows-allowed
 
 -- ---- by the unit, with a page for the TLB
 
 pub invariant_of-self-in-Some-default : goal.invariant_of-self-in-Some-default
 invariant_of-self-in-Some-default c = All-set (λ place. IfSome place (IsBehind c.rights.new.self)) c.self.inside.tlb _ _
-    (filled c.rights.new.self _ c.of-in-Some-default.ensures)
+    (filled c.rights.new.self _ c.of.ensures)
     (stay_behind _ _ (filled_in (goal.at.invariant_of-self-in-Some-default c).After-rights) _ c.self.invariant)
 
 pub returns-in-Some-default-clause-begins : goal.returns-in-Some-default-clause-begins

@@ -1,5 +1,5 @@
 use Rattle.std.proofs.Common.{◌≡◌}
-use Rattle.pmp_harts.proofs.follow.Given as goal
+use Rattle.pmp_harts.proofs.run_one.Given as goal
 
 abbrev pub invariant-loop : goal.invariant-loop
 invariant-loop g l = l.notices.unit ≡ l.hart.unit
