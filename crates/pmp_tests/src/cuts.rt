@@ -1,6 +1,6 @@
 //! A long audit of a trace that is cut at every limit.
 
-use pmp_audit::{AuditSummary, audit_long, audit_whole};
+use pmp_audit::{AuditSummary, Jobs, Pieces, audit_long, audit_whole};
 use pmp_text::{Fault, Place, Refusal, Source};
 use std::thread::Threads;
 
@@ -40,7 +40,16 @@ fn audit_by_pieces<R: AllocGlobal + Threads + Sync>(
     let mut reader = trace;
     let alloc = rt.alloc();
     let mut report = Vec::new(alloc);
-    let answer = audit_long(rt, alloc, jobs, SCRIPT, 1, limit, &mut reader, &mut report);
+    let pieces = Pieces {
+        jobs: Jobs {
+            rt,
+            alloc,
+            count: jobs,
+        },
+        first: 1,
+        limit,
+    };
+    let answer = audit_long(&pieces, SCRIPT, &mut reader, &mut report);
     (answer, report)
 }
 
