@@ -3,7 +3,7 @@
 ghost use Rattle.std.specs.Prelude.{◌≡◌, false, pos};
 ghost use Rattle.clap.specs.Words.{rule_of};
 ghost use Rattle.clap.specs.declared.builder.value_parser.ValueParser.TheVariants.{Signed};
-ghost use Rattle.pmp_tool.specs.Arguments.{count_rule, flag_rule, id_of, option_rule, rule_in, word_rule};
+ghost use Rattle.pmp_tool.specs.Arguments.{flag_rule, id_of, option_rule, rule_in, word_rule};
 
 use crate::help;
 use crate::jobs::JOBS;
@@ -155,8 +155,8 @@ impl Argument {
             AsScript => flag(alloc, id, help).long("script"),
             Draft => flag(alloc, id, help).long("from"),
             AsFormat => option(alloc, id, name, help).long("format"),
-            Checkers => count(alloc, id, name, CHECKERS, help),
-            Jobs => count(alloc, id, name, JOBS, help),
+            Checkers => option(alloc, id, name, help).value_parser(from_one(CHECKERS)),
+            Jobs => option(alloc, id, name, help).value_parser(from_one(JOBS)),
             Policy => Arg::new(alloc, id).value_name(name).help(help),
             Script | Old | New | Trace | Log | Harts | Plan => word(alloc, id, name, help),
             Format | Mode | Kind | Start | Length => word(alloc, id, name, help),
@@ -228,14 +228,6 @@ fn flag<'a>(alloc: Global, id: &'a str, help: &'a str) -> Arg<'a>
         .long(id)
         .action(ArgAction::SetTrue)
         .help(help)
-}
-
-/// Returns `--id name`, a number from 1 to `most`.
-fn count<'a>(alloc: Global, id: &'a str, name: &'a str, most: u8, help: &'a str) -> Arg<'a>
-    ensures rule { rule_of result ≡ count_rule id.entry.now most }
-    ensures local { result.global ≡ false }
-{
-    option(alloc, id, name, help).value_parser(from_one(most))
 }
 
 /// Returns a parser of numbers from 1 to `most`.

@@ -45,7 +45,6 @@ pub fn asks_to_explain(words: &[String]) -> bool
 /// Writes the text of the failure for the user, and after it an explanation if the words ask for one. If the first
 /// isn't written completely there is no second.
 pub fn tell_and_explain<I: Inputs, E: Write>(
-    alloc: Global,
     words: &[String],
     failure: &Failure,
     inputs: &I,
@@ -54,53 +53,39 @@ pub fn tell_and_explain<I: Inputs, E: Write>(
     ensures { TellsAndExplains (map string_bytes words.now) failure.now (E.contents err.old) (E.contents err.new) }
 {
     match failure.tell(err) {
-        Ok(()) if asks_to_explain(words) => explain(alloc, words, failure, inputs.kept(), err),
+        Ok(()) if asks_to_explain(words) => explain(words, failure, inputs.kept(), err),
         _ => {}
     }
 }
 
 /// Writes the explanation of a refusal, as far as memory lasts and the writer takes it.
-fn explain<E: Write>(alloc: Global, words: &[String], failure: &Failure, kept: &Kept, err: &mut E)
+fn explain<E: Write>(words: &[String], failure: &Failure, kept: &Kept, err: &mut E)
     ensures { (text : List ℕ) × AppendsBeginning (E.contents err.old) (E.contents err.new) text }
 {
     let Some(line) = failure.line() else {
         return;
     };
-    if let Ok(text) = explanation(alloc, words, line, kept) {
+    if let Ok(text) = explanation(words, line, kept) {
         let _ = write_out(err, text.as_str().as_bytes());
     }
 }
 
 /// Returns where the fault is, what was wanted there, and what to do.
-fn explanation(
-    alloc: Global,
-    words: &[String],
-    line: &FaultLine,
-    kept: &Kept,
-) -> Result<String, AllocError> {
+fn explanation(words: &[String], line: &FaultLine, kept: &Kept) -> Result<String, AllocError> {
+    let alloc = kept.alloc;
     let mut text = String::new(alloc);
-    write_explanation(alloc, &mut text, words, line, kept)?;
-    Ok(text)
-}
-
-fn write_explanation(
-    alloc: Global,
-    text: &mut String,
-    words: &[String],
-    line: &FaultLine,
-    kept: &Kept,
-) -> Result<(), AllocError> {
-    let in_input = write_spot(text, line, kept)?;
+    let in_input = write_spot(&mut text, line, kept)?;
     if let Some(script) = kept.inputs().get(usize::from(is_new(line.fault.place))) {
         match line.fault.refusal {
-            Refusal::BadAfter => write_count(alloc, text, script)?,
-            Refusal::NoMoment => write_names(alloc, text, script)?,
+            Refusal::BadAfter => write_count(alloc, &mut text, script)?,
+            Refusal::NoMoment => write_names(alloc, &mut text, script)?,
             _ => {}
         }
     }
-    let in_word = write_asked_word(alloc, text, words, line)?;
-    write_wanted(text, line)?;
-    write_remedy(text, line, in_input || in_word)
+    let in_word = write_asked_word(alloc, &mut text, words, line)?;
+    write_wanted(&mut text, line)?;
+    write_remedy(&mut text, line, in_input || in_word)?;
+    Ok(text)
 }
 
 /// Names the faulty input and shows its line; returns whether an address in the program's output form is at fault.

@@ -113,34 +113,36 @@ impl<'a> Question<'a> {
     }
 }
 
-/// Appends the rows about one hart of a folder, each behind its name.
-fn answer_on<I: Inputs>(
-    asking: Asking<'_>,
-    harts: &Harts,
-    hart: &HartName,
-    inputs: &mut I,
-    rows: &mut Vec<AnswerRow>,
-) -> Result<Outcome, Failure>
-    ensures ok { IfOk result (IsAnsweredOn (paths_for (given_names asking.entry.names) (I.paths inputs.old))
-        asking.entry.path.now asking.entry.question harts.now (given_names asking.entry.names) hart.now.name.bytes
-        rows.old.items rows.new.items) }
-    ensures err { IfErr result (FailsOn (paths_for (given_names asking.entry.names) (I.paths inputs.old))
-        asking.entry.path.now asking.entry.question harts.now hart.now) }
-    ensures paths { I.paths inputs.new ≡ I.paths inputs.old }
-{
-    let name = hart.name.as_str();
-    let path = path_on(asking.alloc, harts.old, asking.path, name)?;
-    let new = new_on(asking.alloc, harts, asking.question, name)?;
-    let one = Asking {
-        alloc: asking.alloc,
-        names: asking.names,
-        path: path.as_str(),
-        question: asking.question.with_new(new.as_str()),
-    };
-    inputs.forget();
-    match answer_whole(one, Some(name), inputs, rows) {
-        Ok(outcome) => Ok(outcome),
-        Err(failure) => Err(failure.of_hart(hart.name)),
+impl Harts {
+    /// Appends the rows about one of the harts, each behind its name.
+    fn answer_on<I: Inputs>(
+        &self,
+        asking: Asking<'_>,
+        hart: &HartName,
+        inputs: &mut I,
+        rows: &mut Vec<AnswerRow>,
+    ) -> Result<Outcome, Failure>
+        ensures ok { IfOk result (IsAnsweredOn (paths_for (given_names asking.entry.names) (I.paths inputs.old))
+            asking.entry.path.now asking.entry.question self.now (given_names asking.entry.names) hart.now.name.bytes
+            rows.old.items rows.new.items) }
+        ensures err { IfErr result (FailsOn (paths_for (given_names asking.entry.names) (I.paths inputs.old))
+            asking.entry.path.now asking.entry.question self.now hart.now) }
+        ensures paths { I.paths inputs.new ≡ I.paths inputs.old }
+    {
+        let name = hart.name.as_str();
+        let path = path_on(asking.alloc, self.old, asking.path, name)?;
+        let new = new_on(asking.alloc, self, asking.question, name)?;
+        let one = Asking {
+            alloc: asking.alloc,
+            names: asking.names,
+            path: path.as_str(),
+            question: asking.question.with_new(new.as_str()),
+        };
+        inputs.forget();
+        match answer_whole(one, Some(name), inputs, rows) {
+            Ok(outcome) => Ok(outcome),
+            Err(failure) => Err(failure.of_hart(hart.name)),
+        }
     }
 }
 
@@ -161,7 +163,7 @@ pub fn answer_harts<I: Inputs>(
     let mut outcome = Outcome::Listed;
     let mut rest = harts.names.as_slice();
     while let Some((hart, behind)) = rest.split_first() {
-        let one = answer_on(asking, harts, hart, inputs, &mut rows)?;
+        let one = harts.answer_on(asking, hart, inputs, &mut rows)?;
         outcome = outcome.worse(one);
         rest = behind;
     }

@@ -31,7 +31,6 @@ fn survey_at<I: Inputs>(
 
 /// Appends the script of one hart.
 fn add_hart<I: Inputs>(
-    alloc: Global,
     import: Import<'_>,
     hart: u64,
     inputs: &mut I,
@@ -45,6 +44,7 @@ fn add_hart<I: Inputs>(
         hart: Some(hart),
         ..import.options
     };
+    let alloc = *all.allocator();
     let mut text = Vec::new(alloc);
     match write_import(alloc, Import { options, ..import }, inputs, &mut text) {
         Ok(_) => {}
@@ -76,7 +76,7 @@ fn import_each<I: Inputs>(
     let mut rest = survey.writes.as_slice();
     while let Some((count, behind)) = rest.split_first() {
         if *count > 0 {
-            add_hart(alloc, import, hart, inputs, &mut all)?;
+            add_hart(import, hart, inputs, &mut all)?;
         }
         hart += 1;
         rest = behind;

@@ -13,7 +13,7 @@ pub struct KeptInput {
 /// The inputs of a command in the order in which it takes them, if they are kept.
 #[derive(Drop)]
 pub struct Kept {
-    alloc: Global,
+    pub alloc: Global,
     keeps: bool,
     inputs: Vec<KeptInput>,
     /// The index of the last input that is a script, of two that of the second.

@@ -139,8 +139,8 @@ fn add_rows<I: Inputs, R: RowSink>(
             let decision = add_reasons(log, script, &asked.access, asked.after, rows)?;
             Ok(Outcome::Explained(decision, asked.is_bare))
         }
-        Question::Audit(audit) => add_audit_rows(asking, audit, script, inputs, rows),
-        Question::Policy(policy) => add_policy_rows(asking, policy, script, inputs, rows),
+        Question::Audit(audit) => asking.add_audit_rows(audit, script, inputs, rows),
+        Question::Policy(policy) => asking.add_policy_rows(policy, script, inputs, rows),
         Question::List(listing, after) => {
             allow_name(script, Argument::After, after)?;
             add_listing(log, listing, script, after, rows)?;
@@ -154,89 +154,91 @@ fn add_rows<I: Inputs, R: RowSink>(
             let count = add_findings(log, script, accepted.as_bytes(), rows)?;
             Ok(Outcome::Found(count as u64))
         }
-        Question::Diff(asked) => add_diff_rows(asking, asked, script, inputs, rows),
+        Question::Diff(asked) => asking.add_diff_rows(asked, script, inputs, rows),
     }
 }
 
-/// Decides the accesses of a trace.
-fn add_audit_rows<I: Inputs, R: RowSink>(
-    asking: Asking<'_>,
-    audit: Audit<'_>,
-    script: &[u8],
-    inputs: &mut I,
-    rows: &mut R,
-) -> Result<Outcome, Failure>
-    ensures ok { IfOk result (AreAdded R.Adds (RowsSay
-        (paths_for (given_names asking.entry.names) (I.paths inputs.old)) script.now (question.Audit audit.entry))
-        rows.old rows.new) }
-    ensures err { IfErr result (RowsFail
-        (paths_for (given_names asking.entry.names) (I.paths inputs.old)) script.now (question.Audit audit.entry)) }
-    ensures paths { I.paths inputs.new ≡ I.paths inputs.old }
-{
-    let trace = read_trace(asking.alloc, asking.names, inputs, audit.trace)?;
-    let summary = add_audit(asking.alloc, script, &trace, rows)?;
-    Ok(Outcome::Audited(summary))
-}
-
-/// Judges the rows of a policy.
-fn add_policy_rows<I: Inputs, R: RowSink>(
-    asking: Asking<'_>,
-    policy: Policy<'_>,
-    script: &[u8],
-    inputs: &mut I,
-    rows: &mut R,
-) -> Result<Outcome, Failure>
-    ensures ok { IfOk result (AreAdded R.Adds (RowsSay
-        (paths_for (given_names asking.entry.names) (I.paths inputs.old)) script.now (question.Policy policy.entry))
-        rows.old rows.new) }
-    ensures err { IfErr result (RowsFail
-        (paths_for (given_names asking.entry.names) (I.paths inputs.old)) script.now (question.Policy policy.entry)) }
-    ensures paths { I.paths inputs.new ≡ I.paths inputs.old }
-{
-    let text = read_trace(asking.alloc, asking.names, inputs, policy.path)?;
-    let log = &mut GrowingLog::new(asking.alloc);
-    let summary = add_policy(asking.alloc, log, policy.asked, script, &text, rows)?;
-    if policy.is_strict && summary.rows == 0 {
-        return Err(Failure::from(Refusal::NoRows));
+impl<'a> Asking<'a> {
+    /// Decides the accesses of a trace.
+    fn add_audit_rows<I: Inputs, R: RowSink>(
+        self,
+        audit: Audit<'_>,
+        script: &[u8],
+        inputs: &mut I,
+        rows: &mut R,
+    ) -> Result<Outcome, Failure>
+        ensures ok { IfOk result (AreAdded R.Adds (RowsSay
+            (paths_for (given_names self.entry.names) (I.paths inputs.old)) script.now (question.Audit audit.entry))
+            rows.old rows.new) }
+        ensures err { IfErr result (RowsFail
+            (paths_for (given_names self.entry.names) (I.paths inputs.old)) script.now (question.Audit audit.entry)) }
+        ensures paths { I.paths inputs.new ≡ I.paths inputs.old }
+    {
+        let trace = read_trace(self.alloc, self.names, inputs, audit.trace)?;
+        let summary = add_audit(self.alloc, script, &trace, rows)?;
+        Ok(Outcome::Audited(summary))
     }
-    Ok(Outcome::Judged(summary))
-}
 
-/// Compares the script with a new one.
-fn add_diff_rows<I: Inputs, R: RowSink>(
-    asking: Asking<'_>,
-    asked: Diff<'_>,
-    script: &[u8],
-    inputs: &mut I,
-    rows: &mut R,
-) -> Result<Outcome, Failure>
-    ensures ok { IfOk result (AreAdded R.Adds (RowsSay
-        (paths_for (given_names asking.entry.names) (I.paths inputs.old)) script.now (question.Diff asked.entry))
-        rows.old rows.new) }
-    ensures err { IfErr result (RowsFail
-        (paths_for (given_names asking.entry.names) (I.paths inputs.old)) script.now (question.Diff asked.entry)) }
-    ensures paths { I.paths inputs.new ≡ I.paths inputs.old }
-{
-    allow_name(script, Argument::OldAfter, asked.old_after)?;
-    let new = match script_at(inputs, asked.new) {
-        Ok(new) => new,
-        Err(refusal) => return Err(Failure::unread(refusal, Source::New)),
-    };
-    allow_name(&new, Argument::NewAfter, asked.new_after)?;
-    let old = Moment {
-        script,
-        after: asked.old_after,
-    };
-    let new = Moment {
-        script: &new,
-        after: asked.new_after,
-    };
-    let count = add_diff(
-        &mut GrowingLog::new(asking.alloc),
-        old,
-        new,
-        asked.changes,
-        rows,
-    )?;
-    Ok(Outcome::Compared(count))
+    /// Judges the rows of a policy.
+    fn add_policy_rows<I: Inputs, R: RowSink>(
+        self,
+        policy: Policy<'_>,
+        script: &[u8],
+        inputs: &mut I,
+        rows: &mut R,
+    ) -> Result<Outcome, Failure>
+        ensures ok { IfOk result (AreAdded R.Adds (RowsSay
+            (paths_for (given_names self.entry.names) (I.paths inputs.old)) script.now (question.Policy policy.entry))
+            rows.old rows.new) }
+        ensures err { IfErr result (RowsFail
+            (paths_for (given_names self.entry.names) (I.paths inputs.old)) script.now (question.Policy policy.entry)) }
+        ensures paths { I.paths inputs.new ≡ I.paths inputs.old }
+    {
+        let text = read_trace(self.alloc, self.names, inputs, policy.path)?;
+        let log = &mut GrowingLog::new(self.alloc);
+        let summary = add_policy(self.alloc, log, policy.asked, script, &text, rows)?;
+        if policy.is_strict && summary.rows == 0 {
+            return Err(Failure::from(Refusal::NoRows));
+        }
+        Ok(Outcome::Judged(summary))
+    }
+
+    /// Compares the script with a new one.
+    fn add_diff_rows<I: Inputs, R: RowSink>(
+        self,
+        asked: Diff<'_>,
+        script: &[u8],
+        inputs: &mut I,
+        rows: &mut R,
+    ) -> Result<Outcome, Failure>
+        ensures ok { IfOk result (AreAdded R.Adds (RowsSay
+            (paths_for (given_names self.entry.names) (I.paths inputs.old)) script.now (question.Diff asked.entry))
+            rows.old rows.new) }
+        ensures err { IfErr result (RowsFail
+            (paths_for (given_names self.entry.names) (I.paths inputs.old)) script.now (question.Diff asked.entry)) }
+        ensures paths { I.paths inputs.new ≡ I.paths inputs.old }
+    {
+        allow_name(script, Argument::OldAfter, asked.old_after)?;
+        let new = match script_at(inputs, asked.new) {
+            Ok(new) => new,
+            Err(refusal) => return Err(Failure::unread(refusal, Source::New)),
+        };
+        allow_name(&new, Argument::NewAfter, asked.new_after)?;
+        let old = Moment {
+            script,
+            after: asked.old_after,
+        };
+        let new = Moment {
+            script: &new,
+            after: asked.new_after,
+        };
+        let count = add_diff(
+            &mut GrowingLog::new(self.alloc),
+            old,
+            new,
+            asked.changes,
+            rows,
+        )?;
+        Ok(Outcome::Compared(count))
+    }
 }

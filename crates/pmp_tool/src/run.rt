@@ -32,7 +32,7 @@ use crate::outcome::Outcome;
 use crate::questions::Asking;
 use crate::request::{Audit, Printed, Question, Request};
 use crate::row_format::AskedFormat;
-use crate::streams::{write_import, write_long_report, write_report};
+use crate::streams::write_import;
 use crate::texts::text_of;
 use crate::work::{Setting, Work};
 use clap::ArgMatches;
@@ -81,22 +81,21 @@ pub fn run_tool<R: Threads + Wait + Sync, I: Inputs, O: Write, E: Write>(
     ensures untouched { result ≡ 2 → AsksForPieces (map string_bytes words.now)
         ⊎ Keeps (O.contents out.old) (O.contents out.new) }
 {
-    match run(rt, alloc, words, inputs, out) {
+    match run(work_with(rt, alloc, None, None), words, inputs, out) {
         Ok(outcome) => {
             tell_note(outcome, err);
             outcome.status()
         }
         Err(failure) => {
-            tell_and_explain(alloc, words, &failure, inputs, err);
+            tell_and_explain(words, &failure, inputs, err);
             failure.status()
         }
     }
 }
 
-/// Reads the words, and does what they request.
+/// Reads the words, and does what they request, with the names and in the form that they ask for.
 fn run<R: Threads + Wait + Sync, I: Inputs, O: Write>(
-    rt: &R,
-    alloc: Global,
+    work: Work<'_, '_, R>,
     words: &[String],
     inputs: &mut I,
     out: &mut O,
@@ -107,8 +106,9 @@ fn run<R: Threads + Wait + Sync, I: Inputs, O: Write>(
         (O.contents out.new)) }
     ensures unchanged { OnErr result (I.paths inputs.new ≡ I.paths inputs.old) }
 {
+    let alloc = work.setting.alloc;
     match parse_words(alloc, words) {
-        Ok(matches) => answer_words(rt, alloc, &matches, inputs, out),
+        Ok(matches) => answer_words(work, &matches, inputs, out),
         Err(error) if error.use_stderr() => Err(Failure::from(error)),
         Err(text) => tell(alloc, &text, out),
     }
@@ -116,8 +116,7 @@ fn run<R: Threads + Wait + Sync, I: Inputs, O: Write>(
 
 /// Does what the matches ask for that `clap` found in the words.
 fn answer_words<R: Threads + Wait + Sync, I: Inputs, O: Write>(
-    rt: &R,
-    alloc: Global,
+    work: Work<'_, '_, R>,
     matches: &ArgMatches<'_>,
     inputs: &mut I,
     out: &mut O,
@@ -128,16 +127,17 @@ fn answer_words<R: Threads + Wait + Sync, I: Inputs, O: Write>(
         (O.contents out.new)) }
     ensures unchanged { OnErr result (I.paths inputs.new ≡ I.paths inputs.old) }
 {
+    let alloc = work.setting.alloc;
     let form = asked_format(matches)?;
     let Some(path) = names_path(matches)? else {
         let request = read_request(matches, &[])?;
-        return answer_request(work_with(rt, alloc, None, form), request, inputs, out);
+        return answer_request(work_with(work.rt, alloc, None, form), request, inputs, out);
     };
     let text = inputs.trace(path)?;
     let names = read_names(alloc, &text)?;
     inputs.forget();
     let request = read_request(matches, &names)?;
-    let work = work_with(rt, alloc, names_of(alloc, &names), form);
+    let work = work_with(work.rt, alloc, names_of(alloc, &names), form);
     answer_request(work, request, inputs, out)
 }
 
@@ -177,7 +177,7 @@ fn answer_request<R: Threads + Wait + Sync, I: Inputs, O: Write>(
 {
     match request {
         Request::Print(printed) => answer_printed(work, printed, inputs, out),
-        Request::LongAudit(audit) => write_long_report(work, audit, inputs, out),
+        Request::LongAudit(audit) => work.write_long_report(audit, inputs, out),
         Request::Import(asked) => match asked.folder {
             Some(folder) => import_harts(work.setting.alloc, asked, folder, inputs),
             None => Ok(Outcome::Imported(write_import(work.setting.alloc, asked, inputs, out)?)),
@@ -200,7 +200,7 @@ fn answer_printed<R: Threads + Wait + Sync, I: Inputs, O: Write>(
 {
     match printed {
         Printed::Ask(path, Question::Audit(audit)) => {
-            answer_audit(work, path, audit, inputs, out)
+            work.answer_audit(path, audit, inputs, out)
         }
         _ => print(work.setting, printed, inputs, out),
     }
@@ -225,36 +225,38 @@ fn print<I: Inputs, O: Write>(
     Ok(outcome)
 }
 
-/// Audits a trace by one script, or prints the decisions of each hart of a folder.
-fn answer_audit<R: Threads + Wait + Sync, I: Inputs, O: Write>(
-    work: Work<'_, '_, R>,
-    path: &str,
-    audit: Audit<'_>,
-    inputs: &mut I,
-    out: &mut O,
-) -> Result<Outcome, Failure>
-    ensures ok { IfOk result (IsDone (I.paths inputs.old) (given_names work.entry.setting.names) work.entry.setting.form
-        (O.contents out.old) (O.contents out.new)
-        (request.Print (printed.Ask path.entry (question.Audit audit.entry))) (I.paths inputs.new)) }
-    ensures err { IfErr result (IsUndone (I.paths inputs.old) (given_names work.entry.setting.names) work.entry.setting.form
-        (O.contents out.old) (O.contents out.new) (request.Print (printed.Ask path.entry (question.Audit audit.entry)))) }
-    ensures paths { I.paths inputs.new ≡ I.paths inputs.old }
-{
-    let asking = Asking {
-        alloc: work.setting.alloc,
-        names: work.setting.names,
-        path,
-        question: Question::Audit(audit),
-    };
-    let Some(_) = Harts::find(asking, inputs)? else {
-        return write_report(work, path, audit, inputs, out);
-    };
-    print(
-        work.setting,
-        Printed::Ask(path, Question::Audit(audit)),
-        inputs,
-        out,
-    )
+impl<'r, 'a, R: Threads + Wait + Sync> Work<'r, 'a, R> {
+    /// Audits a trace by one script, or prints the decisions of each hart of a folder.
+    fn answer_audit<I: Inputs, O: Write>(
+        self,
+        path: &str,
+        audit: Audit<'_>,
+        inputs: &mut I,
+        out: &mut O,
+    ) -> Result<Outcome, Failure>
+        ensures ok { IfOk result (IsDone (I.paths inputs.old) (given_names self.entry.setting.names) self.entry.setting.form
+            (O.contents out.old) (O.contents out.new)
+            (request.Print (printed.Ask path.entry (question.Audit audit.entry))) (I.paths inputs.new)) }
+        ensures err { IfErr result (IsUndone (I.paths inputs.old) (given_names self.entry.setting.names) self.entry.setting.form
+            (O.contents out.old) (O.contents out.new) (request.Print (printed.Ask path.entry (question.Audit audit.entry)))) }
+        ensures paths { I.paths inputs.new ≡ I.paths inputs.old }
+    {
+        let asking = Asking {
+            alloc: self.setting.alloc,
+            names: self.setting.names,
+            path,
+            question: Question::Audit(audit),
+        };
+        let Some(_) = Harts::find(asking, inputs)? else {
+            return self.write_report(path, audit, inputs, out);
+        };
+        print(
+            self.setting,
+            Printed::Ask(path, Question::Audit(audit)),
+            inputs,
+            out,
+        )
+    }
 }
 
 /// Writes a text of help, or the version.

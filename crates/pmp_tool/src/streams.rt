@@ -23,65 +23,67 @@ use std::io::Write;
 use std::sync::Wait;
 use std::thread::Threads;
 
-/// Audits a trace that is read as a whole.
-pub fn write_report<R: Threads + Wait + Sync, I: Inputs, O: Write>(
-    work: Work<'_, '_, R>,
-    path: &str,
-    audit: Audit<'_>,
-    inputs: &mut I,
-    out: &mut O,
-) -> Result<Outcome, Failure>
-    ensures ok { IfOk result (IsWritten (ReportSays (paths_for (given_names work.entry.setting.names) (I.paths inputs.old))
-        path.now audit.entry) (O.contents out.old) (O.contents out.new)) }
-    ensures err { IfErr result (ReportFails (paths_for (given_names work.entry.setting.names) (I.paths inputs.old))
-        (O.contents out.old) (O.contents out.new) path.now audit.entry) }
-    ensures paths { I.paths inputs.new ≡ I.paths inputs.old }
-{
-    let script = script_at(inputs, path)?;
-    let trace = read_trace(work.setting.alloc, work.setting.names, inputs, audit.trace)?;
-    let summary = match audit.checkers {
-        Some(k) => audit_by_workers(
-            work.rt,
-            work.setting.alloc,
-            &OpenGate,
-            k as u8,
-            &script,
-            &trace,
-            out,
-        )?,
-        None => audit_whole(work.setting.alloc, &script, &trace, out)?,
-    };
-    Ok(Outcome::Audited(summary))
-}
+impl<'r, 'a, R: Threads + Wait + Sync> Work<'r, 'a, R> {
+    /// Audits a trace that is read as a whole.
+    pub fn write_report<I: Inputs, O: Write>(
+        self,
+        path: &str,
+        audit: Audit<'_>,
+        inputs: &mut I,
+        out: &mut O,
+    ) -> Result<Outcome, Failure>
+        ensures ok { IfOk result (IsWritten (ReportSays (paths_for (given_names self.entry.setting.names) (I.paths inputs.old))
+            path.now audit.entry) (O.contents out.old) (O.contents out.new)) }
+        ensures err { IfErr result (ReportFails (paths_for (given_names self.entry.setting.names) (I.paths inputs.old))
+            (O.contents out.old) (O.contents out.new) path.now audit.entry) }
+        ensures paths { I.paths inputs.new ≡ I.paths inputs.old }
+    {
+        let script = script_at(inputs, path)?;
+        let trace = read_trace(self.setting.alloc, self.setting.names, inputs, audit.trace)?;
+        let summary = match audit.checkers {
+            Some(k) => audit_by_workers(
+                self.rt,
+                self.setting.alloc,
+                &OpenGate,
+                k as u8,
+                &script,
+                &trace,
+                out,
+            )?,
+            None => audit_whole(self.setting.alloc, &script, &trace, out)?,
+        };
+        Ok(Outcome::Audited(summary))
+    }
 
-/// Audits a trace of any length.
-pub fn write_long_report<R: Threads + Wait + Sync, I: Inputs, O: Write>(
-    work: Work<'_, '_, R>,
-    audit: LongAudit<'_>,
-    inputs: &mut I,
-    out: &mut O,
-) -> Result<Outcome, Failure>
-    ensures ok { IfOk result (IsWritten
-        (LongReportSays (paths_for (given_names work.entry.setting.names) (I.paths inputs.old)) audit.entry)
-        (O.contents out.old) (O.contents out.new)) }
-    ensures err { IfErr result (LongReportFails (paths_for (given_names work.entry.setting.names) (I.paths inputs.old))
-        (O.contents out.old) (O.contents out.new) audit.entry) }
-    ensures paths { I.paths inputs.new ≡ I.paths inputs.old }
-{
-    let script = script_at(inputs, audit.script)?;
-    let mut rows = open_trace(work.setting.names, inputs, audit.trace)?;
-    let jobs = Jobs {
-        rt: work.rt,
-        alloc: work.setting.alloc,
-        count: audit.jobs.unwrap_or_else(|| processors(work.rt)) as usize,
-    };
-    let pieces = Pieces {
-        jobs,
-        first: audit.first,
-        limit: PIECE,
-    };
-    let summary = audit_long(&pieces, &script, &mut rows, out)?;
-    Ok(Outcome::Audited(summary))
+    /// Audits a trace of any length.
+    pub fn write_long_report<I: Inputs, O: Write>(
+        self,
+        audit: LongAudit<'_>,
+        inputs: &mut I,
+        out: &mut O,
+    ) -> Result<Outcome, Failure>
+        ensures ok { IfOk result (IsWritten
+            (LongReportSays (paths_for (given_names self.entry.setting.names) (I.paths inputs.old)) audit.entry)
+            (O.contents out.old) (O.contents out.new)) }
+        ensures err { IfErr result (LongReportFails (paths_for (given_names self.entry.setting.names) (I.paths inputs.old))
+            (O.contents out.old) (O.contents out.new) audit.entry) }
+        ensures paths { I.paths inputs.new ≡ I.paths inputs.old }
+    {
+        let script = script_at(inputs, audit.script)?;
+        let mut rows = open_trace(self.setting.names, inputs, audit.trace)?;
+        let jobs = Jobs {
+            rt: self.rt,
+            alloc: self.setting.alloc,
+            count: audit.jobs.unwrap_or_else(|| processors(self.rt)) as usize,
+        };
+        let pieces = Pieces {
+            jobs,
+            first: audit.first,
+            limit: PIECE,
+        };
+        let summary = audit_long(&pieces, &script, &mut rows, out)?;
+        Ok(Outcome::Audited(summary))
+    }
 }
 
 /// Writes the script of a log, and returns what the note says of its hart.

@@ -1,7 +1,7 @@
 use Rattle.std.proofs.Common.{refl}
 use Rattle.std.proofs.lemmas.Result.{err_from_is_err_and}
 use Rattle.pmp_tool.specs.Questions.{read_input, unread_input}
-use Rattle.pmp_tool.proofs.questions.add_audit_rows.Goals as goal
+use Rattle.pmp_tool.proofs.questions.Asking.add_audit_rows.Goals as goal
 
 pub returns-in_err-trace-clause-err : goal.returns-in_err-trace-clause-err
 returns-in_err-trace-clause-err g c =

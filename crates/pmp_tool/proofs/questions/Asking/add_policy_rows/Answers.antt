@@ -1,7 +1,7 @@
 use Rattle.std.proofs.Common.{◌≡◌, refl, rules}
 use Rattle.std.proofs.lemmas.Result.{err_from_is_err_and}
 use Rattle.pmp_tool.specs.Questions.{is_empty, read_input, unjudged, unread_input}
-use Rattle.pmp_tool.proofs.questions.add_policy_rows.Goals as goal
+use Rattle.pmp_tool.proofs.questions.Asking.add_policy_rows.Goals as goal
 
 pub returns-in_err-text-clause-err : goal.returns-in_err-text-clause-err
 returns-in_err-text-clause-err g c =

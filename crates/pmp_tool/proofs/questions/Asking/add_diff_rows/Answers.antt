@@ -1,7 +1,7 @@
 use Rattle.std.proofs.Common.{refl, sym}
 use Rattle.std.proofs.lemmas.Result.{err_from_is_err_and}
 use Rattle.pmp_tool.specs.Questions.{allowed_moment, read_input, unnamed_moment, unread_input}
-use Rattle.pmp_tool.proofs.questions.add_diff_rows.Goals as goal
+use Rattle.pmp_tool.proofs.questions.Asking.add_diff_rows.Goals as goal
 
 pub returns-in_err-allow_name-clause-err : goal.returns-in_err-allow_name-clause-err
 returns-in_err-allow_name-clause-err g c =

@@ -6,7 +6,7 @@ use Rattle.pmp_tool.specs.declared.request.Question.TheVariants.{Audit}
 use Rattle.pmp_tool.specs.declared.request.Request.TheVariants.{Print}
 use Rattle.pmp_tool.specs.Runs.{has_no_text, prints, streams, unstreamed}
 use Rattle.pmp_tool.specs.Texts.{no_harts}
-use Rattle.pmp_tool.proofs.run.answer_audit.Goals as goal
+use Rattle.pmp_tool.proofs.work.Work.answer_audit.Goals as goal
 
 pub returns-in_err-find-clause-err : goal.returns-in_err-find-clause-err
 returns-in_err-find-clause-err g c =

@@ -1,7 +1,7 @@
 use Rattle.std.proofs.lemmas.Result.{err_from_is_err_and}
 use Rattle.std.proofs.KnownBytes.{Keeps-refl}
 use Rattle.pmp_tool.specs.Streams.{no_script, no_trace, unaudited_trace}
-use Rattle.pmp_tool.proofs.streams.write_report.Goals as goal
+use Rattle.pmp_tool.proofs.work.Work.write_report.Goals as goal
 
 pub returns-in_err-script-clause-err : goal.returns-in_err-script-clause-err
 returns-in_err-script-clause-err g c =
