@@ -36,7 +36,7 @@ pub use policy_check::{AskedVerdicts, Breaches, Pace, PolicySummary, add_policy,
 pub use policy_draft::append_policy_from;
 pub use reasons::{add_findings, add_reasons};
 pub use script_diff::{AskedChanges, Moment, add_diff};
-pub use shared_audit::audit_by_workers;
+pub use shared_audit::{Crew, audit_by_workers};
 pub use sized::{AuditFault, Summary, audit, audit_shared, check, dump, map_of};
 pub use trace_audit::{AuditSummary, audit_whole};
 pub use view::{AskedView, Listing, View, add_listing, append_view};

@@ -29,49 +29,53 @@ use std::io::Write;
 use std::sync::Wait;
 use std::thread::Threads;
 
-/// Works as [`audit_whole`](crate::audit_whole), with `k` workers, each with a checker of one unit and usually a thread of its own.
+/// The workers of a shared audit, where their threads and memory come from, and the gate that they pass.
+#[derive(Drop)]
+pub struct Crew<'r, 'g, R, G> {
+    pub rt: &'r R,
+    pub alloc: Global,
+    pub gate: &'g G,
+    /// The number of workers.
+    pub workers: u8,
+}
+
+/// Works as [`audit_whole`](crate::audit_whole), with workers that each have a checker of one unit and usually a thread.
 ///
 /// The script's publications are executed one at a time. Before the first and after each, the rows that ask for exactly
-/// these go to the workers: of the rows with the same `after`, worker `w` takes those whose index, from 0, modulo `k`
-/// is `w`. The next publication follows once all of them are decided. If no thread can be created, a worker's rows are
+/// these go to the workers: of the rows with the same `after`, worker `w` of `k` takes those whose index, from 0, modulo
+/// `k` is `w`. The next publication follows once all of them are decided. If no thread can be created, a worker's rows are
 /// decided on the calling thread, and so are those of workers that have few, if the gate doesn't wait.
 ///
 /// Besides the refusals of `audit_whole` it may return `Share(NoPlace)` and `Moved`, both only if neither input has a fault.
 /// In every case the workers have ended when it returns. It may wait.
 #[inline(never)]
 pub fn audit_by_workers<R: Threads + Wait + Sync, G: Gate + Sync, W: Write>(
-    rt: &R,
-    alloc: Global,
-    gate: &G,
-    k: u8,
+    crew: &Crew<'_, '_, R, G>,
     script: &[u8],
     trace: &[u8],
     writer: &mut W,
 ) -> Result<AuditSummary, Fault>
-    requires { (1 ≤ k) × (k ≤ CHECKERS) }
+    requires { (1 ≤ crew.now.workers) × (crew.now.workers ≤ CHECKERS) }
     ensures ok { IfOk result
         (IsWritten (AuditSays script.now trace.now) (W.contents writer.old) (W.contents writer.new)) }
     ensures err { IfErr result
         (IsRefused (AuditSays script.now trace.now) (W.contents writer.old) (W.contents writer.new)
         (SharedAuditRefuses script.now trace.now)) }
 {
-    let mut log = GrowingLog::new(alloc);
+    let mut log = GrowingLog::new(crew.alloc);
     let script = read_script_in(&mut log, script)?;
     law_script_size();
-    audit_trace(rt, alloc, gate, k, &script, trace, writer)
+    audit_trace(crew, &script, trace, writer)
 }
 
 /// Audits the trace, whatever text the script was read from.
 fn audit_trace<R: Threads + Wait + Sync, G: Gate + Sync, W: Write>(
-    rt: &R,
-    alloc: Global,
-    gate: &G,
-    k: u8,
+    crew: &Crew<'_, '_, R, G>,
     script: &ReadScript,
     trace: &[u8],
     writer: &mut W,
 ) -> Result<AuditSummary, Fault>
-    requires workers { (1 ≤ k) × (k ≤ CHECKERS) }
+    requires workers { (1 ≤ crew.now.workers) × (crew.now.workers ≤ CHECKERS) }
     requires size { IsInLimits script.now.batches }
     ensures ok { (text : List ℕ) → script_meaning text ≡ Ok script.now → IfOk result
         (IsWritten (AuditSays text trace.now) (W.contents writer.old) (W.contents writer.new)) }
@@ -79,11 +83,11 @@ fn audit_trace<R: Threads + Wait + Sync, G: Gate + Sync, W: Write>(
         (IsRefused (AuditSays text trace.now) (W.contents writer.old) (W.contents writer.new)
         (SharedAuditRefuses text trace.now)) }
 {
-    let rows = read_trace_by(alloc, trace, &script.moments())?;
-    let decisions = decide_shared(rt, alloc, gate, k, script, &rows)?;
+    let rows = read_trace_by(crew.alloc, trace, &script.moments())?;
+    let decisions = decide_shared(crew, script, &rows)?;
     law_legal_start();
     law_decided_by_ranges();
-    let mut report = Vec::new(alloc);
+    let mut report = Vec::new(crew.alloc);
     let faults = list_decisions(&mut report, &rows, &decisions)?;
     write_answer(writer, &report, Ok(AuditSummary::of(&rows, faults)))
 }

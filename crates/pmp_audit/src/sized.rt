@@ -19,7 +19,7 @@ ghost use Rattle.pmp_audit.specs.declared.view.View.TheVariants.{Registers};
 use crate::access_check::add_check;
 use crate::answer::write_answer;
 use crate::gate::Gate;
-use crate::shared_audit::audit_by_workers;
+use crate::shared_audit::{Crew, audit_by_workers};
 use crate::trace_audit::{AuditSummary, audit_whole};
 use crate::view::{AskedView, Listing, View, add_listing, append_view};
 use pmp_core::{Access, Decision};
@@ -215,7 +215,13 @@ pub fn audit_shared<R: Threads + Wait + Sync, G: Gate + Sync, W: Write>(
         (W.contents writer.old) (W.contents writer.new) (SharedAuditRefuses script.now trace.now)) }
 {
     want_sized(script)?;
-    let summary = audit_by_workers(rt, alloc, gate, k, script, trace, writer)?;
+    let crew = Crew {
+        rt,
+        alloc,
+        gate,
+        workers: k,
+    };
+    let summary = audit_by_workers(&crew, script, trace, writer)?;
     Ok(summary.counts())
 }
 

@@ -1,6 +1,6 @@
 //! An audit by several workers that pass a gate.
 
-use pmp_audit::{AuditSummary, Gate, audit_by_workers};
+use pmp_audit::{AuditSummary, Crew, Gate, audit_by_workers};
 use pmp_text::Fault;
 use std::alloc::{AllocError, Global};
 use std::sync::Wait;
@@ -116,7 +116,13 @@ fn audit_all<R: Threads + Wait + Sync, G: Gate + Sync>(
 ) -> Result<AuditSummary, Fault> {
     let trace = trace_of(alloc, first, ROWS)?;
     let mut report = Vec::new(alloc);
-    audit_by_workers(rt, alloc, gate, 8, SCRIPT, trace.as_slice(), &mut report)
+    let crew = Crew {
+        rt,
+        alloc,
+        gate,
+        workers: 8,
+    };
+    audit_by_workers(&crew, SCRIPT, trace.as_slice(), &mut report)
 }
 
 /// Returns the summary of all rows decided, with the given number of them refused.

@@ -16,7 +16,7 @@ use crate::outcome::Outcome;
 use crate::questions::script_at;
 use crate::request::{Audit, Import, LongAudit};
 use crate::work::Work;
-use pmp_audit::{Jobs, OpenGate, PIECE, Pieces, audit_by_workers, audit_long, audit_whole};
+use pmp_audit::{Crew, Jobs, OpenGate, PIECE, Pieces, audit_by_workers, audit_long, audit_whole};
 use pmp_import::{Given, import, survey_log};
 use std::alloc::Global;
 use std::io::Write;
@@ -41,15 +41,15 @@ impl<'r, 'a, R: Threads + Wait + Sync> Work<'r, 'a, R> {
         let script = script_at(inputs, path)?;
         let trace = read_trace(self.setting.alloc, self.setting.names, inputs, audit.trace)?;
         let summary = match audit.checkers {
-            Some(k) => audit_by_workers(
-                self.rt,
-                self.setting.alloc,
-                &OpenGate,
-                k as u8,
-                &script,
-                &trace,
-                out,
-            )?,
+            Some(k) => {
+                let crew = Crew {
+                    rt: self.rt,
+                    alloc: self.setting.alloc,
+                    gate: &OpenGate,
+                    workers: k as u8,
+                };
+                audit_by_workers(&crew, &script, &trace, out)?
+            }
             None => audit_whole(self.setting.alloc, &script, &trace, out)?,
         };
         Ok(Outcome::Audited(summary))

@@ -12,13 +12,13 @@ ghost use Rattle.pmp_text.specs.Traces.{row_fields};
 ghost use Rattle.pmp_audit.specs.Rounds.{decision_for};
 ghost use Rattle.pmp_audit.specs.SharedAudit.{MayStop};
 
-use super::rounds::decide_asking;
+use super::Crew;
+use super::rounds::{SharedUnit, decide_asking};
 use crate::fault::fault_of_share;
 use crate::gate::Gate;
 use pmp_core::{Decision, Event};
-use pmp_share::{Batch, Checker, Publisher, start_from};
+use pmp_share::{Batch, Publisher, start_from};
 use pmp_text::{Fault, ReadScript, TraceRow};
-use std::alloc::Global;
 use std::sync::Wait;
 use std::thread::Threads;
 
@@ -42,65 +42,62 @@ fn publish<R: Wait>(rt: &R, publisher: &mut Publisher, events: &[Event]) -> Resu
     }
 }
 
-/// Decides the rows, each after the publications that it asks for, with a publisher and checkers of a new unit.
+/// Decides the rows, each after the publications that it asks for, with a new unit.
 fn decide_rows<R: Threads + Wait + Sync, G: Gate + Sync>(
-    rt: &R,
-    alloc: Global,
-    gate: &G,
-    publisher: &mut Publisher,
-    checkers: Vec<Checker>,
+    crew: &Crew<'_, '_, R, G>,
+    unit: &mut SharedUnit,
     script: &ReadScript,
     rows: &[TraceRow],
-) -> Result<Vec<Decision>, Fault>
-    requires some { 0 < length checkers.items }
-    requires few { length checkers.items ≤ CHECKERS }
-    requires same_unit { All (λ checker. checker.unit ≡ publisher.old.unit) checkers.items }
-    requires base { publisher.old.unit.base ≡ script.now.start }
-    requires published { publisher.old.published ≡ no_batches }
-    requires pending { publisher.old.pending ≡ [] }
+) -> Result<(), Fault>
+    requires some { 0 < length unit.old.checkers.items }
+    requires few { length unit.old.checkers.items ≤ CHECKERS }
+    requires same_unit { All (λ checker. checker.unit ≡ unit.old.publisher.unit) unit.old.checkers.items }
+    requires base { unit.old.publisher.unit.base ≡ script.now.start }
+    requires published { unit.old.publisher.published ≡ no_batches }
+    requires pending { unit.old.publisher.pending ≡ [] }
     requires size { IsInLimits script.now.batches }
     requires order { IsInOrder (length script.now.batches) 0 (afters (map row_fields rows.now)) }
-    ensures decided { IfOk result (λ decided. decided.items ≡ map (decision_for script.now) rows.now) }
+    ensures decided { OnOk result (unit.new.decided.items ≡ map (decision_for script.now) rows.now) }
     ensures refused { IfErr result (MayStop script.now.batches (map row_fields rows.now)) }
 {
-    let mut decided = Vec::new(alloc);
-    let mut checkers = decide_asking(rt, alloc, gate, publisher, checkers, 0, rows, &mut decided)?;
+    unit.decided.clear();
+    decide_asking(crew, unit, 0, rows)?;
     for index in 0..script.batches() {
-        publish(rt, publisher, script.batch(index))?;
-        checkers = decide_asking(
-            rt,
-            alloc,
-            gate,
-            publisher,
-            checkers,
-            index + 1,
-            rows,
-            &mut decided,
-        )?;
+        publish(crew.rt, &mut unit.publisher, script.batch(index))?;
+        decide_asking(crew, unit, index + 1, rows)?;
     }
-    Ok(decided)
+    Ok(())
 }
 
-/// Decides the rows with `k` workers that share a unit, which has ended when the call returns.
+/// Decides the rows with workers that share a unit, which has ended when the call returns.
 pub(crate) fn decide_shared<R: Threads + Wait + Sync, G: Gate + Sync>(
-    rt: &R,
-    alloc: Global,
-    gate: &G,
-    k: u8,
+    crew: &Crew<'_, '_, R, G>,
     script: &ReadScript,
     rows: &[TraceRow],
 ) -> Result<Vec<Decision>, Fault>
-    requires workers { (1 ≤ k) × (k ≤ CHECKERS) }
+    requires workers { (1 ≤ crew.now.workers) × (crew.now.workers ≤ CHECKERS) }
     requires size { IsInLimits script.now.batches }
     requires order { IsInOrder (length script.now.batches) 0 (afters (map row_fields rows.now)) }
     ensures decided { IfOk result (λ decided. decided.items ≡ map (decision_for script.now) rows.now) }
     ensures refused { IfErr result (MayStop script.now.batches (map row_fields rows.now)) }
 {
-    let (mut publisher, checkers) = match start_from(rt, alloc, &script.start().save(), k) {
+    let start = script.start().save();
+    let (publisher, checkers) = match start_from(crew.rt, crew.alloc, &start, crew.workers) {
         Ok(started) => started,
         Err(fault) => return Err(fault_of_share(fault)),
     };
-    let decided = decide_rows(rt, alloc, gate, &mut publisher, checkers, script, rows);
-    publisher.end(rt);
-    decided
+    let mut unit = SharedUnit {
+        publisher,
+        checkers,
+        decided: Vec::new(crew.alloc),
+    };
+    let made = decide_rows(crew, &mut unit, script, rows);
+    let SharedUnit {
+        publisher,
+        checkers: _checkers,
+        decided,
+    } = unit;
+    publisher.end(crew.rt);
+    made?;
+    Ok(decided)
 }

@@ -4,6 +4,15 @@ ghost use Rattle.std.specs.Prelude.{◌≡◌};
 
 use pmp_core::Decision;
 use pmp_share::{Checker, Notice};
+use pmp_text::TraceRow;
+
+/// The rows of a round, the number of the first one in the report, and the number of workers that take turns.
+#[derive(Clone, Copy)]
+pub(crate) struct Round<'r> {
+    pub rows: &'r [TraceRow],
+    pub first: u64,
+    pub workers: u8,
+}
 
 /// A worker's checker, and a notice of what is published.
 #[derive(Drop)]

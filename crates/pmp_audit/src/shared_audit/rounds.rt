@@ -1,12 +1,13 @@
 //! One round: the rows that ask for exactly what is published, decided by all workers.
 
-ghost use Rattle.std.specs.Prelude.{◌≡◌, ◌+◌, ◌^◌, ◌<◌, ◌≤◌, ◌++◌, IfOk, IfErr, All, Any, length, drop};
+ghost use Rattle.std.specs.Prelude.{◌≡◌, ◌+◌, ◌^◌, ◌<◌, ◌≤◌, ◌++◌, IfOk, IfErr, OnOk, All, Any, length, drop};
 ghost use Rattle.pmp_share.specs.declared.fault.ShareFault.TheVariants.{Full};
 ghost use Rattle.pmp_share.specs.declared.opening.TheConstants.{CHECKERS};
 ghost use Rattle.pmp_share.specs.Batches.{file_from};
 ghost use Rattle.pmp_audit.specs.Rounds.{AreCheckersOf, AreJobs, asking};
 ghost use Rattle.pmp_audit.specs.Working.{StopsRound, decided_in};
 
+use super::Crew;
 use super::asking::asking;
 use super::job::Job;
 use super::merging::{all_done, checkers_of, merge};
@@ -17,8 +18,16 @@ use pmp_core::Decision;
 use pmp_share::{Checker, Publisher, ShareFault};
 use pmp_text::{Fault, TraceRow};
 use std::alloc::Global;
+use std::mem;
 use std::sync::Wait;
 use std::thread::Threads;
+
+/// A unit that workers share, and the decisions made so far.
+pub(crate) struct SharedUnit {
+    pub publisher: Publisher,
+    pub checkers: Vec<Checker>,
+    pub decided: Vec<Decision>,
+}
 
 /// Returns a job for each checker, with a notice of what is published. The workers are numbered in the checkers' order.
 fn jobs_of(
@@ -45,68 +54,66 @@ fn jobs_of(
     Ok(jobs)
 }
 
-/// Has all workers decide these rows in what is published, adds the decisions in the order of the rows, and returns the
-/// checkers. All workers have then ended.
+/// Has all workers decide these rows in what is published, and adds the decisions in the order of the rows. All workers
+/// have then ended.
 fn round<R: Threads + Wait + Sync, G: Gate + Sync>(
-    rt: &R,
-    alloc: Global,
-    gate: &G,
-    publisher: &mut Publisher,
-    checkers: Vec<Checker>,
+    crew: &Crew<'_, '_, R, G>,
+    unit: &mut SharedUnit,
     rows: &[TraceRow],
-    decided: &mut Vec<Decision>,
-) -> Result<Vec<Checker>, Fault>
-    requires some { 0 < length checkers.items }
-    requires few { length checkers.items ≤ CHECKERS }
-    requires same_unit { All (λ checker. checker.unit ≡ publisher.old.unit) checkers.items }
-    requires room { length decided.old.items + length rows.now + 1 ≤ 2 ^ 64 }
-    ensures same { publisher.new ≡ publisher.old }
-    ensures ok { IfOk result (λ all. AreCheckersOf publisher.old.unit (length checkers.items) all.items
-        × (decided.new.items
-        ≡ decided.old.items ++ decided_in (file_from publisher.old.unit.base publisher.old.published) rows.now)) }
-    ensures err { IfErr result (StopsRound publisher.old.published) }
+) -> Result<(), Fault>
+    requires some { 0 < length unit.old.checkers.items }
+    requires few { length unit.old.checkers.items ≤ CHECKERS }
+    requires same_unit { All (λ checker. checker.unit ≡ unit.old.publisher.unit) unit.old.checkers.items }
+    requires room { length unit.old.decided.items + length rows.now + 1 ≤ 2 ^ 64 }
+    ensures same { unit.new.publisher ≡ unit.old.publisher }
+    ensures ok { OnOk result
+        (AreCheckersOf unit.old.publisher.unit (length unit.old.checkers.items) unit.new.checkers.items
+        × (unit.new.decided.items ≡ unit.old.decided.items
+        ++ decided_in (file_from unit.old.publisher.unit.base unit.old.publisher.published) rows.now)) }
+    ensures err { IfErr result (StopsRound unit.old.publisher.published) }
 {
-    let first = decided.len() as u64 + 1;
-    let jobs = match jobs_of(alloc, publisher, checkers) {
+    let first = unit.decided.len() as u64 + 1;
+    let checkers = mem::replace(&mut unit.checkers, Vec::new(crew.alloc));
+    let jobs = match jobs_of(crew.alloc, &mut unit.publisher, checkers) {
         Ok(jobs) => jobs,
         Err(fault) => return Err(fault_of_share(fault)),
     };
-    let results = run_jobs(rt, alloc, gate, jobs, rows, first)?;
-    let all = all_done(alloc, results)?;
-    merge(decided, &all, rows.len())?;
-    Ok(checkers_of(alloc, all)?)
+    let results = run_jobs(crew, jobs, rows, first)?;
+    let all = all_done(crew.alloc, results)?;
+    merge(&mut unit.decided, &all, rows.len())?;
+    unit.checkers = checkers_of(crew.alloc, all)?;
+    Ok(())
 }
 
 /// Decides the next rows, as far as they ask for exactly `after` publications, which are done, with no more workers
 /// than such rows: a checker without a row gets no job, and without rows no worker is started.
 pub(crate) fn decide_asking<R: Threads + Wait + Sync, G: Gate + Sync>(
-    rt: &R,
-    alloc: Global,
-    gate: &G,
-    publisher: &mut Publisher,
-    mut checkers: Vec<Checker>,
+    crew: &Crew<'_, '_, R, G>,
+    unit: &mut SharedUnit,
     after: u64,
     rows: &[TraceRow],
-    decided: &mut Vec<Decision>,
-) -> Result<Vec<Checker>, Fault>
-    requires some { 0 < length checkers.items }
-    requires few { length checkers.items ≤ CHECKERS }
-    requires same_unit { All (λ checker. checker.unit ≡ publisher.old.unit) checkers.items }
-    requires within { length decided.old.items ≤ length rows.now }
-    ensures same { publisher.new ≡ publisher.old }
-    ensures ok { IfOk result (λ all. AreCheckersOf publisher.old.unit (length checkers.items) all.items
-        × (decided.new.items ≡ decided.old.items
-        ++ decided_in (file_from publisher.old.unit.base publisher.old.published)
-        (asking after (drop (length decided.old.items) rows.now)))) }
-    ensures err { IfErr result (λ fault. StopsRound publisher.old.published fault
+) -> Result<(), Fault>
+    requires some { 0 < length unit.old.checkers.items }
+    requires few { length unit.old.checkers.items ≤ CHECKERS }
+    requires same_unit { All (λ checker. checker.unit ≡ unit.old.publisher.unit) unit.old.checkers.items }
+    requires within { length unit.old.decided.items ≤ length rows.now }
+    ensures same { unit.new.publisher ≡ unit.old.publisher }
+    ensures ok { OnOk result
+        (AreCheckersOf unit.old.publisher.unit (length unit.old.checkers.items) unit.new.checkers.items
+        × (unit.new.decided.items ≡ unit.old.decided.items
+        ++ decided_in (file_from unit.old.publisher.unit.base unit.old.publisher.published)
+        (asking after (drop (length unit.old.decided.items) rows.now)))) }
+    ensures err { IfErr result (λ fault. StopsRound unit.old.publisher.published fault
         × Any (λ row. row.after ≡ after) rows.now) }
 {
-    let next = asking(&rows[decided.len()..], after);
+    let next = asking(&rows[unit.decided.len()..], after);
     if next.is_empty() {
-        return Ok(checkers);
+        return Ok(());
     }
-    let mut idle = checkers.split_off(next.len().min(checkers.len()))?;
-    let mut all = round(rt, alloc, gate, publisher, checkers, next, decided)?;
-    all.append(&mut idle)?;
-    Ok(all)
+    let mut idle = unit
+        .checkers
+        .split_off(next.len().min(unit.checkers.len()))?;
+    round(crew, unit, next)?;
+    unit.checkers.append(&mut idle)?;
+    Ok(())
 }

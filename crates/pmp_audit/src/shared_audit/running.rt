@@ -4,11 +4,12 @@ ghost use Rattle.std.specs.Prelude.{◌+◌, ◌^◌, ◌<◌, ◌≤◌, IfOk, 
 ghost use Rattle.pmp_share.specs.declared.opening.TheConstants.{CHECKERS};
 ghost use Rattle.pmp_audit.specs.Rounds.{AreResults, IsResult};
 
-use super::job::{Done, Job};
+use super::Crew;
+use super::job::{Done, Job, Round};
 use super::working::work;
 use crate::gate::Gate;
 use pmp_text::{Fault, TraceRow};
-use std::alloc::{AllocError, Global};
+use std::alloc::AllocError;
 use std::thread;
 use std::thread::Threads;
 
@@ -18,9 +19,7 @@ const FEW: usize = 512;
 /// Runs the jobs of all workers: each on a thread of its own, or in turn if these have few rows and don't wait for one
 /// another. All have then ended.
 pub(crate) fn run_jobs<R: Threads + Sync, G: Gate + Sync>(
-    rt: &R,
-    alloc: Global,
-    gate: &G,
+    crew: &Crew<'_, '_, R, G>,
     jobs: Vec<Job>,
     rows: &[TraceRow],
     first: u64,
@@ -30,20 +29,30 @@ pub(crate) fn run_jobs<R: Threads + Sync, G: Gate + Sync>(
     requires numbered { first + length rows.now ≤ 2 ^ 64 }
     ensures { IfOk result (λ results. AreResults (length jobs.items) first rows.now jobs.items results.items) }
 {
-    let workers = jobs.len() as u8;
+    let Crew {
+        rt,
+        alloc,
+        gate,
+        ..
+    } = *crew;
+    let round = Round {
+        rows,
+        first,
+        workers: jobs.len() as u8,
+    };
     if gate.may_wait() || rows.len() / jobs.len() >= FEW {
         return thread::map_vec(
             rt,
             jobs,
             &|job: Job| -> Result<Done, Fault>
-                requires { (0 < workers) × (first + length rows.now ≤ 2 ^ 64) }
-                ensures { IsResult workers first rows.entry.now job result }
-            { work(alloc, gate, job, workers, rows, first) },
+                requires { (0 < round.workers) × (round.first + length round.rows.now ≤ 2 ^ 64) }
+                ensures { IsResult round.entry.workers round.entry.first round.entry.rows.now job result }
+            { work(alloc, gate, job, round) },
         );
     }
     let mut results = Vec::new(alloc);
     for job in jobs {
-        results.push(work(alloc, gate, job, workers, rows, first))?;
+        results.push(work(alloc, gate, job, round))?;
     }
     Ok(results)
 }

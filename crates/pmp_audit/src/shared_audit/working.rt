@@ -6,7 +6,7 @@ ghost use Rattle.pmp_audit.specs.Rounds.{IsResult};
 ghost use Rattle.pmp_audit.specs.Working.{HasLearnt};
 ghost use Rattle.pmp_share.specs.Batches.{event_count};
 
-use super::job::{Done, Job};
+use super::job::{Done, Job, Round};
 use crate::fault::moved_on;
 use crate::gate::Gate;
 use pmp_core::{Decision, RegFile};
@@ -32,18 +32,16 @@ fn ask(checker: &mut Checker, count: u64, file: &RegFile, row: &TraceRow) -> Res
 
 /// Does the job of one of several workers: learns its notice, and decides its rows of a round in exactly what the
 /// notice reports and the checker has seen, and no more. These are the rows whose index, from 0, modulo the number of
-/// workers is the worker's; the first row has the number `first`. After each row it passes the gate.
+/// workers is the worker's. After each row it passes the gate.
 pub(crate) fn work<G: Gate>(
     alloc: Global,
     gate: &G,
     job: Job,
-    workers: u8,
-    rows: &[TraceRow],
-    first: u64,
+    round: Round<'_>,
 ) -> Result<Done, Fault>
-    requires some { 0 < workers }
-    requires numbered { first + length rows.now ≤ 2 ^ 64 }
-    ensures result { IsResult workers first rows.now job result }
+    requires some { 0 < round.workers }
+    requires numbered { round.first + length round.rows.now ≤ 2 ^ 64 }
+    ensures result { IsResult round.entry.workers round.entry.first round.entry.rows.now job result }
     ensures asked { IfOk result (λ done. 0 < length done.decisions.items →
         event_count done.checker.list ≡ event_count job.notice.list) }
 {
@@ -52,6 +50,11 @@ pub(crate) fn work<G: Gate>(
         mut checker,
         notice,
     } = job;
+    let Round {
+        rows,
+        first,
+        workers,
+    } = round;
     let count = notice.len();
     let file = notice.file();
     checker.learn(notice);

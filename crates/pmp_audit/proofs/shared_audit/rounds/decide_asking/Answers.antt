@@ -27,11 +27,11 @@ returns-in_err-idle-clause-err g c =
           c.asking-next.ensures (λ none. false≢true (sym c.if-is_empty.false ∙ rw none at c.is_empty.ensures)),
     )
 
-pub returns-in_err-all-clause-err : goal.returns-in_err-all-clause-err
-returns-in_err-all-clause-err g c =
-    let p = err_from_is_err_and c.from_residual-in_err-all.result c.from_residual-in_err-all.ensures.1 in
+pub returns-in_err-round-clause-err : goal.returns-in_err-round-clause-err
+returns-in_err-round-clause-err g c =
+    let p = err_from_is_err_and c.from_residual-in_err-round.result c.from_residual-in_err-round.ensures.1 in
     rw (p.1, p.2) (
-      c.in_err-all.ensures.err,
+      c.in_err-round.ensures.err,
       asked c.args.after c.len.result c.args.rows.now c.asking-next.result.now (omega arith)
           c.asking-next.ensures (λ none. false≢true (sym c.if-is_empty.false ∙ rw none at c.is_empty.ensures)),
     )

@@ -9,37 +9,38 @@ use Rattle.pmp_audit.proofs.shared_audit.rounds.round.Goals as goal
 use Rattle.pmp_audit.proofs.shared_audit.rounds.round.Goals.{After-deref}
 
 -- each worker brings its share of the decisions in what is published
-dealt : (g : _) (c : After-deref g) → AreDealt (length c.args.decided.now.items + 1)
-    (decided_in (file_from c.args.publisher.now.unit.base c.args.publisher.now.published) c.args.rows.now)
+dealt : (g : _) (c : After-deref g) → AreDealt (length c.args.unit.now.decided.items + 1)
+    (decided_in (file_from c.args.unit.now.publisher.unit.base c.args.unit.now.publisher.published) c.args.rows.now)
     c.in_ok-all.all.items
 dealt g c =
-    let first : c.len.result + 1 ≡ length c.args.decided.now.items + 1 =
-    omega (arith, c.len.ensures, c.args.decided.now.ok.0) in
-    rw (← first) (all_dealt_out c.args.publisher.now (length c.args.checkers.items) (c.len.result + 1)
+    let first : c.len.result + 1 ≡ length c.args.unit.now.decided.items + 1 =
+    omega (arith, c.len.ensures, c.args.unit.now.decided.ok.0) in
+    rw (← first) (all_dealt_out c.args.unit.now.publisher _ (c.len.result + 1)
     c.args.rows.now c.in-Ok.jobs.items c.in_ok-results.results.items c.in_ok-all.all.items
     c.in-Ok.ensures.jobs c.in_ok-all.ensures.done c.in_ok-results.ensures)
 
 pub merge-requires-clause-dealt : goal.merge-requires-clause-dealt
 merge-requires-clause-dealt g c = (
-  decided_in (file_from c.args.publisher.now.unit.base c.args.publisher.now.published) c.args.rows.now,
+  decided_in (file_from c.args.unit.now.publisher.unit.base c.args.unit.now.publisher.published) c.args.rows.now,
   length-map c.args.rows.now _,
   rw c.deref.ensures.value (dealt g c),
 )
 
 pub returns-clause-ok : goal.returns-clause-ok
 returns-clause-ok g c = (
-  all_checkers c.args.publisher.now (length c.args.checkers.items) (c.len.result + 1) c.args.rows.now
-      c.in-Ok.jobs.items c.in_ok-results.results.items c.in_ok-all.all.items c.in-Ok.ensures.jobs
-      c.in_ok-all.ensures.done c.in_ok-results.ensures c.in_ok-checkers_of.field-0.items c.in_ok-checkers_of.ensures,
+  all_checkers c.args.unit.now.publisher _ (c.len.result + 1) c.args.rows.now
+      c.in-Ok.jobs.items c.in_ok-results.results.items c.in_ok-all.all.items
+      (rw c.replace-checkers.ensures.value at c.in-Ok.ensures.jobs)
+      c.in_ok-all.ensures.done c.in_ok-results.ensures _ c.in_ok-unit.ensures,
   c.in_ok-merge.ensures _ (length-map c.args.rows.now _)
       (rw c.deref.ensures.value (dealt g (goal.at.returns-clause-ok g c).After-deref)),
 )
 
 pub returns-in_err-all-clause-err : goal.returns-in_err-all-clause-err
 returns-in_err-all-clause-err g c =
-    let why : StopsRound c.args.publisher.now.published c.in_err-all.field-0.0 = elim c.in_err-all.ensures.refused [
+    let why : StopsRound c.args.unit.now.publisher.published c.in_err-all.field-0.0 = elim c.in_err-all.ensures.refused [
       | inl found ↦
-          stopped c.args.publisher.now (length c.args.checkers.items) (c.len.result + 1) c.args.rows.now
+          stopped c.args.unit.now.publisher _ (c.len.result + 1) c.args.rows.now
           c.in-Ok.jobs.items c.in_ok-results.results.items c.in_err-all.field-0.0 c.in-Ok.ensures.jobs
           c.in_ok-results.ensures found
       | inr memory ↦ inl memory

@@ -8,5 +8,5 @@ abbrev pub invariant-loop-job : goal.invariant-loop-job
 invariant-loop-job g l = record {
   whole : l.yielded ++ into_iter_items l.job-iterator ≡ l.fn.jobs.items;
   left : into_iter_len l.job-iterator ≡ length (into_iter_items l.job-iterator);
-  results : AreResults l.workers l.first l.rows l.yielded l.results.items;
+  results : AreResults l.round.workers l.first l.rows l.yielded l.results.items;
 }

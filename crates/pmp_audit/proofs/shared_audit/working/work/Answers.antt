@@ -29,13 +29,13 @@ at_place first file rows place row decision inside is =
 pub loop-place-preserved : goal.loop-place-preserved
 loop-place-preserved g c =
     let at = c.loop-place in
-    let rows = c.args.rows.now in
-    let numbered = enumerate_from c.args.first (decided_in c.file-file.result rows) in
+    let rows = c.args.round.rows.now in
+    let numbered = enumerate_from c.args.round.first (decided_in c.file-file.result rows) in
     let turns = length at.decisions.items in
-    let own = at_place c.args.first c.file-file.result rows at.place c.index-rows-place.result c.in-Ok.decision
+    let own = at_place c.args.round.first c.file-file.result rows at.place c.index-rows-place.result c.in-Ok.decision
     c.loop-place-test.true (c.in-Ok.ensures.decided
     ∙ ap (λ (row : TraceRow). decision_of c.file-file.result row.access) c.index-rows-place.is) in
-    let size = length_push at.decisions.items (c.args.first + at.place, c.in-Ok.decision) in
+    let size = length_push at.decisions.items (c.args.round.first + at.place, c.in-Ok.decision) in
     let one_more : length c.push.new.self.items ≡ turns + 1 = ap (λ (l : List (ℕ × Decision)). length l)
     c.in_ok-push.ensures.items ∙ size in
     record {
@@ -44,11 +44,11 @@ loop-place-preserved g c =
       file_is = at.invariant.file_is;
       place_is =
           let was = at.invariant.place_is in
-          let turn = add-mul turns 1 c.args.workers in
-          let next : length c.push.new.self.items * c.args.workers ≡ (turns + 1) * c.args.workers =
-          ap (λ (n : ℕ). n * c.args.workers) one_more in
+          let turn = add-mul turns 1 c.args.round.workers in
+          let next : length c.push.new.self.items * c.args.round.workers ≡ (turns + 1) * c.args.round.workers =
+          ap (λ (n : ℕ). n * c.args.round.workers) one_more in
           omega arith;
-      dealt = rw (one_more, c.in_ok-push.ensures.items) (one_dealt c.args.job.worker c.args.workers numbered turns
+      dealt = rw (one_more, c.in_ok-push.ensures.items) (one_dealt c.args.job.worker c.args.round.workers numbered turns
           at.decisions.items _ at.invariant.dealt (ap (slice_get numbered) (sym at.invariant.place_is) ∙ own));
       asked = λ _. c.in-Ok.ensures.asked;
       count_is = at.invariant.count_is;
@@ -57,14 +57,14 @@ loop-place-preserved g c =
 pub returns-clause-result : goal.returns-clause-result
 returns-clause-result g c =
     let at = c.loop-place in
-    let made = decided_in c.file-file.result c.args.rows.now in
-    let many : length (enumerate_from c.args.first made) ≡ length c.args.rows.now =
-    length-enumerate_from c.args.first made ∙ length-map c.args.rows.now _ in
+    let made = decided_in c.file-file.result c.args.round.rows.now in
+    let many : length (enumerate_from c.args.round.first made) ≡ length c.args.round.rows.now =
+    length-enumerate_from c.args.round.first made ∙ length-map c.args.round.rows.now _ in
     record {
       done = record {
         same_unit = at.invariant.same_unit;
-        dealt = rw (← at.invariant.file_is) (all_dealt c.args.job.worker c.args.workers
-            (enumerate_from c.args.first made) (length at.decisions.items) at.decisions.items at.invariant.dealt
+        dealt = rw (← at.invariant.file_is) (all_dealt c.args.job.worker c.args.round.workers
+            (enumerate_from c.args.round.first made) (length at.decisions.items) at.decisions.items at.invariant.dealt
             (let place_is = at.invariant.place_is in omega arith));
       };
       refused = tt;
