@@ -32,7 +32,9 @@ pub use access_check::add_check;
 pub use audited_rows::add_audit;
 pub use gate::{Gate, OpenGate};
 pub use long_audit::{Jobs, PIECE, Pieces, audit_long};
-pub use policy_check::{AskedVerdicts, Breaches, Pace, PolicySummary, add_policy, append_verdict};
+pub use policy_check::{
+    AskedPolicy, AskedVerdicts, Breaches, Pace, PolicySummary, add_policy, append_verdict,
+};
 pub use policy_draft::append_policy_from;
 pub use reasons::{add_findings, add_reasons};
 pub use script_diff::{AskedChanges, Moment, add_diff};

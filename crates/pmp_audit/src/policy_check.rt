@@ -47,6 +47,14 @@ pub struct AskedVerdicts {
     pub breaches: Breaches,
 }
 
+/// The text of a policy, what is asked of it, and where the memory for its rows comes from.
+#[derive(Clone, Copy)]
+pub struct AskedPolicy<'t> {
+    pub alloc: Global,
+    pub text: &'t [u8],
+    pub asked: AskedVerdicts,
+}
+
 /// How many rows a policy has, and how many of them are broken, or unmet though they don't allow it.
 #[derive(Clone, Copy, Debug, Default, PartialEq, Eq)]
 pub struct PolicySummary {
@@ -66,43 +74,48 @@ pub struct PolicySummary {
 /// byte of its range may have moved; otherwise it costs a comparison of two ranges per state.
 #[inline(never)]
 pub fn add_policy<L: EventLog, R: RowSink>(
-    alloc: Global,
     log: &mut L,
-    asked: AskedVerdicts,
     script: &[u8],
-    policy: &[u8],
+    policy: AskedPolicy<'_>,
     out: &mut R,
 ) -> Result<PolicySummary, Fault>
     ensures ok { IfOk result
-        (AreAdded R.Adds (PolicySays asked.breaches asked.pace script.now policy.now) out.old out.new) }
-    ensures err { IfErr result (Declines (PolicyRefuses script.now policy.now)) }
+        (AreAdded R.Adds (PolicySays policy.entry.asked.breaches policy.entry.asked.pace script.now policy.entry.text.now)
+        out.old out.new) }
+    ensures err { IfErr result (Declines (PolicyRefuses script.now policy.entry.text.now)) }
     ensures kept { OnErr result (R.Adds [] out.old out.new) }
 {
     let script = read_script_in(log, script)?;
-    check_rows(alloc, asked, &script, policy, out)
+    check_rows(&script, policy, out)
 }
 
 /// Judges the rows of the policy, whatever text the script was read from.
 fn check_rows<R: RowSink>(
-    alloc: Global,
-    asked: AskedVerdicts,
     script: &ReadScript,
-    policy: &[u8],
+    policy: AskedPolicy<'_>,
     out: &mut R,
 ) -> Result<PolicySummary, Fault>
     ensures ok { (text : List ℕ) → script_meaning text ≡ Ok script.now → IfOk result
-        (AreAdded R.Adds (PolicySays asked.breaches asked.pace text policy.now) out.old out.new) }
+        (AreAdded R.Adds (PolicySays policy.entry.asked.breaches policy.entry.asked.pace text policy.entry.text.now)
+        out.old out.new) }
     ensures err { (text : List ℕ) → script_meaning text ≡ Ok script.now → IfErr result
-        (Declines (PolicyRefuses text policy.now)) }
+        (Declines (PolicyRefuses text policy.entry.text.now)) }
     ensures kept { OnErr result (R.Adds [] out.old out.new) }
 {
-    let policy = read_policy(alloc, policy, &moments_of(script))?;
+    let AskedPolicy { alloc, text, asked } = policy;
+    let policy = read_policy(alloc, text, &moments_of(script))?;
     let steps = Steps {
         script,
         pace: asked.pace,
     };
     let judged = judge_rows(alloc, &steps, &policy.rows)?;
-    Ok(add_all(alloc, out, &steps, asked.breaches, &judged, &policy.labels)?)
+    let telling = Telling {
+        alloc,
+        steps,
+        breaches: asked.breaches,
+        labels: &policy.labels,
+    };
+    Ok(add_all(out, &telling, &judged)?)
 }
 
 /// Adds the verdict on one row, under this row number, and returns it. The log keeps the script's events; `Memory` means
@@ -136,22 +149,29 @@ pub fn append_verdict<L: EventLog, R: RowSink>(
     Ok(verdict)
 }
 
-/// Adds what is told of the rows, with the labels of the rows that have one, or nothing.
-fn add_all<R: RowSink>(
+/// What is told of judged rows: which of the breaches in a script's steps, and the labels of the rows that have one.
+#[derive(Clone, Copy)]
+struct Telling<'s, 'l> {
     alloc: Global,
-    out: &mut R,
-    steps: &Steps<'_>,
+    steps: Steps<'s>,
     breaches: Breaches,
+    labels: &'l [Label],
+}
+
+/// Adds what is told of the rows, or nothing.
+fn add_all<R: RowSink>(
+    out: &mut R,
+    telling: &Telling<'_, '_>,
     judged: &[Judged],
-    labels: &[Label],
 ) -> Result<PolicySummary, AllocError>
-    requires { All (λ row. row.to ≤ length steps.now.script.now.batches) (rows_of judged.now) }
-    ensures ok { IfOk result (AreWritten R.Adds (IsToldOf breaches steps.now.pace steps.now.script.now) judged.now
-        (map label_text labels.now) out.old out.new) }
+    requires { All (λ row. row.to ≤ length telling.now.steps.script.now.batches) (rows_of judged.now) }
+    ensures ok { IfOk result (AreWritten R.Adds
+        (IsToldOf telling.now.breaches telling.now.steps.pace telling.now.steps.script.now) judged.now
+        (map label_text telling.now.labels.now) out.old out.new) }
     ensures kept { OnErr result (R.Adds [] out.old out.new) }
 {
     let before = out.position();
-    let summary = add_verdicts(alloc, out, steps, breaches, judged, labels);
+    let summary = add_verdicts(out, telling, judged);
     if summary.is_err() {
         out.go_back(before);
     }
@@ -160,21 +180,19 @@ fn add_all<R: RowSink>(
 
 /// Adds what is told of the rows, or of some.
 fn add_verdicts<R: RowSink>(
-    alloc: Global,
     out: &mut R,
-    steps: &Steps<'_>,
-    breaches: Breaches,
+    telling: &Telling<'_, '_>,
     judged: &[Judged],
-    labels: &[Label],
 ) -> Result<PolicySummary, AllocError>
-    requires { All (λ row. row.to ≤ length steps.now.script.now.batches) (rows_of judged.now) }
-    ensures ok { IfOk result (AreWritten R.Adds (IsToldOf breaches steps.now.pace steps.now.script.now) judged.now
-        (map label_text labels.now) out.old out.new) }
+    requires { All (λ row. row.to ≤ length telling.now.steps.script.now.batches) (rows_of judged.now) }
+    ensures ok { IfOk result (AreWritten R.Adds
+        (IsToldOf telling.now.breaches telling.now.steps.pace telling.now.steps.script.now) judged.now
+        (map label_text telling.now.labels.now) out.old out.new) }
     ensures err { OnErr result (AddsSome R.Adds out.old out.new) }
 {
     let mut summary = PolicySummary::default();
     for one in judged {
-        add_told(alloc, out, steps, breaches, one, summary.rows, labels)?;
+        add_told(out, telling, one, summary.rows)?;
         summary.rows += 1;
         summary.broken += u64::from(one.told().is_breach());
         summary.bare = summary.bare.or(one.row.is_bare.then_some(summary.rows));
@@ -191,24 +209,22 @@ fn label_at(labels: &[Label], index: u64) -> Option<&Label>
 
 /// Adds what is told of the row at this index, from 0, with the label that it has there, if any.
 fn add_told<R: RowSink>(
-    alloc: Global,
     out: &mut R,
-    steps: &Steps<'_>,
-    breaches: Breaches,
+    telling: &Telling<'_, '_>,
     one: &Judged,
     index: u64,
-    labels: &[Label],
 ) -> Result<(), AllocError>
     requires room { index + 1 < 2 ^ 64 }
-    requires within { one.now.row.to ≤ length steps.now.script.now.batches }
-    ensures ok { OnOk result ((told : List Verdict) × IsToldOf breaches steps.now.pace steps.now.script.now one.now told
-        × R.Adds (told_rows (index + 1) (slice_get (map label_text labels.now) index) told) out.old out.new) }
+    requires within { one.now.row.to ≤ length telling.now.steps.script.now.batches }
+    ensures ok { OnOk result ((told : List Verdict)
+        × IsToldOf telling.now.breaches telling.now.steps.pace telling.now.steps.script.now one.now told
+        × R.Adds (told_rows (index + 1) (slice_get (map label_text telling.now.labels.now) index) told) out.old out.new) }
     ensures err { OnErr result (AddsSome R.Adds out.old out.new) }
 {
-    let label = label_at(labels, index);
-    match (breaches, one.told()) {
+    let label = label_at(telling.labels, index);
+    match (telling.breaches, one.told()) {
         (Breaches::All, Verdict::Broken(_)) => {
-            let all = breaches_of(alloc, steps, &one.row)?;
+            let all = breaches_of(telling.alloc, &telling.steps, &one.row)?;
             add_breaches(out, index + 1, &all, label)
         }
         (Breaches::All, Verdict::Holds) => add_verdict(out, index + 1, Verdict::Holds, label),

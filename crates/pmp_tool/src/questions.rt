@@ -18,8 +18,8 @@ use crate::numbered_inputs::read_trace;
 use crate::outcome::Outcome;
 use crate::request::{Audit, Diff, Policy, Question};
 use pmp_audit::{
-    Moment, add_audit, add_check, add_diff, add_findings, add_listing, add_policy, add_reasons,
-    add_writes,
+    AskedPolicy, Moment, add_audit, add_check, add_diff, add_findings, add_listing, add_policy,
+    add_reasons, add_writes,
 };
 use pmp_text::{
     AddressNames, GrowingLog, MAX_HEADED_SCRIPT, Refusal, RowSink, Source, When, is_headed,
@@ -196,7 +196,12 @@ impl<'a> Asking<'a> {
     {
         let text = read_trace(self.alloc, self.names, inputs, policy.path)?;
         let log = &mut GrowingLog::new(self.alloc);
-        let summary = add_policy(self.alloc, log, policy.asked, script, &text, rows)?;
+        let asked = AskedPolicy {
+            alloc: self.alloc,
+            text: &text,
+            asked: policy.asked,
+        };
+        let summary = add_policy(log, script, asked, rows)?;
         if policy.is_strict && summary.rows == 0 {
             return Err(Failure::from(Refusal::NoRows));
         }

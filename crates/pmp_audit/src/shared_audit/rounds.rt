@@ -110,9 +110,8 @@ pub(crate) fn decide_asking<R: Threads + Wait + Sync, G: Gate + Sync>(
     if next.is_empty() {
         return Ok(());
     }
-    let mut idle = unit
-        .checkers
-        .split_off(next.len().min(unit.checkers.len()))?;
+    let busy = next.len().min(unit.checkers.len());
+    let mut idle = unit.checkers.split_off(busy)?;
     round(crew, unit, next)?;
     unit.checkers.append(&mut idle)?;
     Ok(())

@@ -29,12 +29,8 @@ pub(crate) fn run_jobs<R: Threads + Sync, G: Gate + Sync>(
     requires numbered { first + length rows.now ≤ 2 ^ 64 }
     ensures { IfOk result (λ results. AreResults (length jobs.items) first rows.now jobs.items results.items) }
 {
-    let Crew {
-        rt,
-        alloc,
-        gate,
-        ..
-    } = *crew;
+    let alloc = crew.alloc;
+    let gate = crew.gate;
     let round = Round {
         rows,
         first,
@@ -42,7 +38,7 @@ pub(crate) fn run_jobs<R: Threads + Sync, G: Gate + Sync>(
     };
     if gate.may_wait() || rows.len() / jobs.len() >= FEW {
         return thread::map_vec(
-            rt,
+            crew.rt,
             jobs,
             &|job: Job| -> Result<Done, Fault>
                 requires { (0 < round.workers) × (round.first + length round.rows.now ≤ 2 ^ 64) }
