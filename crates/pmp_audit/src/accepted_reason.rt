@@ -48,13 +48,21 @@ pub fn are_reasons(words: &[u8]) -> bool
         .all(|word| is_reason(word))
 }
 
+/// The accepted reasons, as they stand at a line.
+#[derive(Clone, Copy)]
+pub struct AcceptedAt<'a> {
+    pub reasons: &'a [u8],
+    pub line: u64,
+}
+
 /// Whether a reason why the register wouldn't read the value, if it were written now, isn't accepted at the line.
-pub fn has_other_reason(accepted: &[u8], line: u64, file: &RegFile, csr: Csr, value: u64) -> bool
-    ensures { result ≡ has_other_reason accepted.now line file.now csr value }
+pub fn has_other_reason(accepted: AcceptedAt<'_>, file: &RegFile, csr: Csr, value: u64) -> bool
+    ensures { result ≡ has_other_reason accepted.entry.reasons.now accepted.entry.line file.now csr value }
 {
+    let AcceptedAt { reasons, line } = accepted;
     let registers = file.registers();
     WriteReason::ALL.iter().any(|reason| {
         registers.is_reason(*reason, csr, value)
-            && !is_accepted(accepted, reason_word(*reason).as_bytes(), line)
+            && !is_accepted(reasons, reason_word(*reason).as_bytes(), line)
     })
 }

@@ -10,7 +10,7 @@ ghost use Rattle.pmp_audit.specs.WriteList.{all_rows, placed, placed_events, eve
 ghost use Rattle.pmp_audit.specs.WriteList.{WritesSay, write_summary};
 ghost use Rattle.pmp_audit.specs.AskedFile.{ScriptRefuses};
 
-use crate::accepted_reason::has_other_reason;
+use crate::accepted_reason::{AcceptedAt, has_other_reason};
 use crate::expectations::add_expectations;
 use pmp_core::{Event, RegFile};
 use pmp_text::laws::law_script_size;
@@ -101,18 +101,20 @@ fn add_events<R: RowSink>(
             number: index + 1,
             lines: script.lines(index),
             events: script.batch(index),
+            accepted,
         };
-        summary = add_publication(out, &mut file, summary, publication, accepted)?;
+        summary = add_publication(out, &mut file, summary, publication)?;
     }
     Ok(summary)
 }
 
-/// The events of a publication, with its number and their lines.
+/// The events of a publication, with its number, their lines, and the reasons that are accepted there.
 #[derive(Clone, Copy)]
-struct Publication<'a> {
+struct Publication<'a, 'r> {
     number: u64,
     lines: &'a [u64],
     events: &'a [Event],
+    accepted: &'r [u8],
 }
 
 /// Adds the rows of a publication's events, and executes them. What comes before them is already counted.
@@ -120,12 +122,11 @@ fn add_publication<R: RowSink>(
     out: &mut R,
     file: &mut RegFile,
     before: EventSummary,
-    publication: Publication<'_>,
-    accepted: &[u8],
+    publication: Publication<'_, '_>,
 ) -> Result<EventSummary, AllocError>
     requires room { before.events + length publication.events.now < 2 ^ 64 }
     requires within { before.not_stored ≤ before.events }
-    ensures written { IfOk result (λ after. AreWritten R.Adds accepted.now
+    ensures written { IfOk result (λ after. AreWritten R.Adds publication.entry.accepted.now
         (record { rows = out.old; file = file.old; summary = before })
         (record { rows = out.new; file = file.new; summary = after })
         (placed publication.entry.number publication.entry.lines.now publication.entry.events.now)) }
@@ -140,7 +141,11 @@ fn add_publication<R: RowSink>(
             line: *line,
         };
         let after = add_effect(out, &place, file, *event)?;
-        let is_fault = has_fault(accepted, *line, file, &after, *event);
+        let accepted = AcceptedAt {
+            reasons: publication.accepted,
+            line: *line,
+        };
+        let is_fault = has_fault(accepted, file, &after, *event);
         summary = EventSummary {
             events: place.number,
             not_stored: summary.not_stored + u64::from(is_fault),
@@ -152,12 +157,13 @@ fn add_publication<R: RowSink>(
 
 /// Whether the event, which meets the one file and leaves the other, is a write that the register then doesn't read
 /// back, for a reason that isn't accepted.
-fn has_fault(accepted: &[u8], line: u64, file: &RegFile, after: &RegFile, event: Event) -> bool
-    ensures { after.now ≡ step file.now event → result ≡ has_fault accepted.now file.now line event }
+fn has_fault(accepted: AcceptedAt<'_>, file: &RegFile, after: &RegFile, event: Event) -> bool
+    ensures { after.now ≡ step file.now event
+        → result ≡ has_fault accepted.entry.reasons.now file.now accepted.entry.line event }
 {
     match event {
         Event::Write(csr, value) => {
-            after.read(csr) != value && has_other_reason(accepted, line, file, csr, value)
+            after.read(csr) != value && has_other_reason(accepted, file, csr, value)
         }
         Event::Reset => false,
     }
