@@ -79,8 +79,8 @@ pub fn add_policy<L: EventLog, R: RowSink>(
     policy: AskedPolicy<'_>,
     out: &mut R,
 ) -> Result<PolicySummary, Fault>
-    ensures ok { IfOk result
-        (AreAdded R.Adds (PolicySays policy.entry.asked.breaches policy.entry.asked.pace script.now policy.entry.text.now)
+    ensures ok { IfOk result (AreAdded R.Adds
+        (PolicySays policy.entry.asked.breaches policy.entry.asked.pace script.now policy.entry.text.now)
         out.old out.new) }
     ensures err { IfErr result (Declines (PolicyRefuses script.now policy.entry.text.now)) }
     ensures kept { OnErr result (R.Adds [] out.old out.new) }
@@ -218,7 +218,8 @@ fn add_told<R: RowSink>(
     requires within { one.now.row.to ≤ length telling.now.steps.script.now.batches }
     ensures ok { OnOk result ((told : List Verdict)
         × IsToldOf telling.now.breaches telling.now.steps.pace telling.now.steps.script.now one.now told
-        × R.Adds (told_rows (index + 1) (slice_get (map label_text telling.now.labels.now) index) told) out.old out.new) }
+        × R.Adds (told_rows (index + 1) (slice_get (map label_text telling.now.labels.now) index) told)
+        out.old out.new) }
     ensures err { OnErr result (AddsSome R.Adds out.old out.new) }
 {
     let label = label_at(telling.labels, index);

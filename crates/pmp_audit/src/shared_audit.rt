@@ -39,15 +39,16 @@ pub struct Crew<'r, 'g, R, G> {
     pub workers: u8,
 }
 
-/// Works as [`audit_whole`](crate::audit_whole), with workers that each have a checker of one unit and usually a thread.
+/// Works as [`audit_whole`](crate::audit_whole), with workers that each have a checker of one unit and usually a thread
+/// of their own.
 ///
 /// The script's publications are executed one at a time. Before the first and after each, the rows that ask for exactly
-/// these go to the workers: of the rows with the same `after`, worker `w` of `k` takes those whose index, from 0, modulo
-/// `k` is `w`. The next publication follows once all of them are decided. If no thread can be created, a worker's rows are
-/// decided on the calling thread, and so are those of workers that have few, if the gate doesn't wait.
+/// these go to the workers: of the rows with the same `after`, worker `w` of `k` takes those whose index, from 0,
+/// modulo `k` is `w`. The next publication follows once all of them are decided. If no thread can be created, a worker's
+/// rows are decided on the calling thread, and so are those of workers that have few, if the gate doesn't wait.
 ///
-/// Besides the refusals of `audit_whole` it may return `Share(NoPlace)` and `Moved`, both only if neither input has a fault.
-/// In every case the workers have ended when it returns. It may wait.
+/// Besides the refusals of `audit_whole` it may return `Share(NoPlace)` and `Moved`, both only if neither input has a
+/// fault. In every case the workers have ended when it returns. It may wait.
 #[inline(never)]
 pub fn audit_by_workers<R: Threads + Wait + Sync, G: Gate + Sync, W: Write>(
     crew: &Crew<'_, '_, R, G>,

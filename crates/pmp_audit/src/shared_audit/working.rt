@@ -50,25 +50,20 @@ pub(crate) fn work<G: Gate>(
         mut checker,
         notice,
     } = job;
-    let Round {
-        rows,
-        first,
-        workers,
-    } = round;
     let count = notice.len();
     let file = notice.file();
     checker.learn(notice);
     let mut decisions = Vec::new(alloc);
     let mut place = usize::from(worker);
-    while place < rows.len() {
-        let number = first + place as u64;
-        let decision = match ask(&mut checker, count, &file, &rows[place]) {
+    while place < round.rows.len() {
+        let number = round.first + place as u64;
+        let decision = match ask(&mut checker, count, &file, &round.rows[place]) {
             Ok(decision) => decision,
             Err(moved) => return Err(moved_on(moved)),
         };
         decisions.push((number, decision))?;
         gate.pass(worker, number);
-        place += usize::from(workers);
+        place += usize::from(round.workers);
     }
     Ok(Done { checker, decisions })
 }

@@ -7,16 +7,18 @@ use Rattle.pmp_audit.proofs.PolicyVerdicts.{none_written, one_row_more, one_writ
 use Rattle.pmp_audit.proofs.policy_check.add_verdicts.Goals as goal
 
 pub loop-one-init : goal.loop-one-init
-loop-one-init g c = none_written g.R.RowSink.Adds g.met.R.RowSink.none _ (map label_text c.args.telling.now.labels.now) c.args.out.now c.default-summary.result
-    c.default-summary.ensures.0 c.default-summary.ensures.1.0 c.default-summary.ensures.1.1
+loop-one-init g c =
+    none_written g.R.RowSink.Adds g.met.R.RowSink.none _ (map label_text c.args.telling.now.labels.now)
+    c.args.out.now c.default-summary.result c.default-summary.ensures.0 c.default-summary.ensures.1.0
+    c.default-summary.ensures.1.1
 
 pub add_told-requires-clause-room : goal.add_told-requires-clause-room
 add_told-requires-clause-room g c =
     let i = c.loop-one.one-index in
     let all = c.args.judged.now in
     let labels = map label_text c.args.telling.now.labels.now in
-    let done = rows_so_far g.R.RowSink.Adds g.met.R.RowSink.both _ (take i all) labels c.args.out.now c.loop-one.out c.loop-one.summary
-    c.loop-one.invariant in
+    let done = rows_so_far g.R.RowSink.Adds g.met.R.RowSink.both _ (take i all) labels c.args.out.now
+    c.loop-one.out c.loop-one.summary c.loop-one.invariant in
     let test = c.loop-one-test.true in
     let count = length-take-le i all (omega (arith, test)) in
     omega (arith, done, count, test)
@@ -27,9 +29,9 @@ loop-one-preserved g c =
     let all = c.args.judged.now in
     let (told, is, text) = c.in_ok-add_told.ensures.ok in
     rw (one_row_more all i c.one-item.result c.loop-one-test.true c.one-item.is)
-    (one_written g.R.RowSink.Adds g.met.R.RowSink.both _ (take i all) (map label_text c.args.telling.now.labels.now) c.args.out.now c.loop-one.out
-    c.loop-one.summary c.loop-one.invariant c.one-item.result c.add_told.new.out _ told is text
-    (refl, search rules, search rules))
+    (one_written g.R.RowSink.Adds g.met.R.RowSink.both _ (take i all) (map label_text c.args.telling.now.labels.now)
+    c.args.out.now c.loop-one.out c.loop-one.summary c.loop-one.invariant c.one-item.result c.add_told.new.out _ told is
+    text (refl, search rules, search rules))
 
 pub add_told-requires-clause-within : goal.add_told-requires-clause-within
 add_told-requires-clause-within g c =

@@ -5,5 +5,6 @@ use Rattle.pmp_audit.proofs.policy_check.add_verdicts.Given as goal
 
 -- what is told of the rows so far is written
 abbrev pub invariant-loop-one : goal.invariant-loop-one
-invariant-loop-one g l = AreWritten g.R.RowSink.Adds (IsToldOf l.telling.breaches l.telling.steps.pace l.telling.steps.script.now) (take l.one-index l.judged)
-    (map label_text l.telling.labels.now) l.fn.out l.out l.summary
+invariant-loop-one g l =
+    AreWritten g.R.RowSink.Adds (IsToldOf l.telling.breaches l.telling.steps.pace l.telling.steps.script.now)
+    (take l.one-index l.judged) (map label_text l.telling.labels.now) l.fn.out l.out l.summary

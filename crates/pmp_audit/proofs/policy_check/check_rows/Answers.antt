@@ -1,4 +1,4 @@
-use Rattle.std.proofs.Common.{◌≡◌, ◌∙◌, ℕ, Ok, ap, map}
+use Rattle.std.proofs.Common.{◌≡◌, ◌∙◌, Ok, ap, map}
 use Rattle.pmp_text.specs.Labels.{label_text, policy_labels}
 use Rattle.pmp_text.specs.Policies.{policy_fields, policy_meaning}
 use Rattle.pmp_audit.proofs.PolicyVerdicts.{policy_says}

@@ -40,7 +40,8 @@ loop-index-preserved g c =
     c.in_ok-publish.ensures.published ∙ ap (λ (p : Batches). p ++ batch ∷ []) at.invariant.published
     ∙ ap (λ (b : List Event). take at.index script.batches ++ b ∷ []) c.batch.ensures.events
     ∙ sym (take_more script.batches at.index [] (omega (arith, c.batches-index-end.ensures))) in
-    let unit : c.publish.new.publisher.unit ≡ c.args.unit.now.publisher.unit = c.publish.ensures.unit ∙ at.invariant.unit in
+    let unit : c.publish.new.publisher.unit ≡ c.args.unit.now.publisher.unit =
+    c.publish.ensures.unit ∙ at.invariant.unit in
     let checkers = c.in_ok-decide_asking-2.ensures.ok.0 in
     record {
       published = ap (λ (p : PublisherToken). p.published) same ∙ done;
@@ -67,12 +68,14 @@ returns-in_err-decide_asking-2-clause-refused g c =
     c.in_ok-publish.ensures.published ∙ ap (λ (p : Batches). p ++ batch ∷ []) at.invariant.published
     ∙ ap (λ (b : List Event). take at.index script.batches ++ b ∷ []) c.batch.ensures.events
     ∙ sym (take_more script.batches at.index [] (omega (arith, c.batches-index-end.ensures))) in
-    let p = err_from_is_err_and c.from_residual-in_err-decide_asking-2.result c.from_residual-in_err-decide_asking-2.ensures.1 in
+    let exit = c.from_residual-in_err-decide_asking-2 in
+    let p = err_from_is_err_and exit.result exit.ensures.1 in
     rw (p.1, p.2) (stops_after script.batches c.publish.new.publisher.published c.args.rows.now (at.index + 1) done
     c.in_err-decide_asking-2.field-0.0 c.in_err-decide_asking-2.ensures.err.0 c.in_err-decide_asking-2.ensures.err.1)
 
 pub returns-in_err-decide_asking-clause-refused : goal.returns-in_err-decide_asking-clause-refused
 returns-in_err-decide_asking-clause-refused g c =
     let p = err_from_is_err_and c.from_residual.result c.from_residual.ensures.1 in
+    let why = c.in_err-decide_asking.ensures.err in
     rw (p.1, p.2) (stops_after c.args.script.now.batches c.args.unit.now.publisher.published c.args.rows.now 0
-    c.requires.published c.in_err-decide_asking.field-0.0 c.in_err-decide_asking.ensures.err.0 c.in_err-decide_asking.ensures.err.1)
+    c.requires.published c.in_err-decide_asking.field-0.0 why.0 why.1)

@@ -38,11 +38,11 @@ returns-clause-ok g c = (
 
 pub returns-in_err-all-clause-err : goal.returns-in_err-all-clause-err
 returns-in_err-all-clause-err g c =
-    let why : StopsRound c.args.unit.now.publisher.published c.in_err-all.field-0.0 = elim c.in_err-all.ensures.refused [
+    let told = c.args.unit.now.publisher.published in
+    let why : StopsRound told c.in_err-all.field-0.0 = elim c.in_err-all.ensures.refused [
       | inl found ↦
-          stopped c.args.unit.now.publisher _ (c.len.result + 1) c.args.rows.now
-          c.in-Ok.jobs.items c.in_ok-results.results.items c.in_err-all.field-0.0 c.in-Ok.ensures.jobs
-          c.in_ok-results.ensures found
+          stopped c.args.unit.now.publisher _ (c.len.result + 1) c.args.rows.now c.in-Ok.jobs.items
+          c.in_ok-results.results.items c.in_err-all.field-0.0 c.in-Ok.ensures.jobs c.in_ok-results.ensures found
       | inr memory ↦ inl memory
     ] in
     search rules

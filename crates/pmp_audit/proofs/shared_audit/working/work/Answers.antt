@@ -32,9 +32,8 @@ loop-place-preserved g c =
     let rows = c.args.round.rows.now in
     let numbered = enumerate_from c.args.round.first (decided_in c.file-file.result rows) in
     let turns = length at.decisions.items in
-    let own = at_place c.args.round.first c.file-file.result rows at.place c.index-rows-place.result c.in-Ok.decision
-    c.loop-place-test.true (c.in-Ok.ensures.decided
-    ∙ ap (λ (row : TraceRow). decision_of c.file-file.result row.access) c.index-rows-place.is) in
+    let own = at_place c.args.round.first c.file-file.result rows at.place c.index-round-place.result c.in-Ok.decision
+    c.loop-place-test.true c.in-Ok.ensures.decided in
     let size = length_push at.decisions.items (c.args.round.first + at.place, c.in-Ok.decision) in
     let one_more : length c.push.new.self.items ≡ turns + 1 = ap (λ (l : List (ℕ × Decision)). length l)
     c.in_ok-push.ensures.items ∙ size in

@@ -11,12 +11,12 @@ invariant-loop-place g l = record {
   same_unit : l.checker.unit ≡ l.fn.job.checker.unit;
   learnt : HasLearnt l.checker l.count l.file;
   file_is : l.file ≡ file_from l.fn.job.checker.unit.base l.fn.job.notice.list;
-  place_is : l.place ≡ l.worker + length l.decisions.items * l.workers;
-  dealt : IsDealtSoFar l.worker l.workers (enumerate_from l.first (decided_in l.file l.rows)) (length l.decisions.items)
-      l.decisions.items;
+  place_is : l.place ≡ l.worker + length l.decisions.items * l.round.workers;
+  dealt : IsDealtSoFar l.worker l.round.workers (enumerate_from l.round.first (decided_in l.file l.round.rows.now))
+      (length l.decisions.items) l.decisions.items;
   asked : 0 < length l.decisions.items → event_count l.checker.list ≡ l.count;
   count_is : l.count ≡ event_count l.fn.job.notice.list;
 }
 
 abbrev pub decreases-loop-place : goal.decreases-loop-place
-decreases-loop-place g l = length l.rows - l.place
+decreases-loop-place g l = length l.round.rows.now - l.place
