@@ -38,8 +38,8 @@ pub struct Pieces<'r, T> {
 /// refusal but `Script` may come after rows are written. `TooLong` is returned if a run of bytes only one shorter than
 /// a piece has no line end.
 ///
-/// The rows of a piece are read, and then decided, in as many parts at a time as there are jobs, each on a thread of its
-/// own if one can be created, while the calling thread takes the next piece; all threads have ended when the call
+/// The rows of a piece are read, and then decided, in as many parts at a time as there are jobs, each on a thread of
+/// its own if one can be created, while the calling thread takes the next piece; all threads have ended when the call
 /// returns. None is started for no job or one.
 #[inline(never)]
 pub fn audit_long<T: Threads + Sync, R: Read, W: Write>(
@@ -49,9 +49,11 @@ pub fn audit_long<T: Threads + Sync, R: Read, W: Write>(
     writer: &mut W,
 ) -> Result<AuditSummary, Fault>
     ensures ok { IfOk result (λ summary. (trace : List ℕ) × IfSome (R.remaining reader.old) (λ those. trace ≡ those)
-        × IsWritten (LongAuditSays script.now audit.now.first trace) (W.contents writer.old) (W.contents writer.new) summary) }
+        × IsWritten (LongAuditSays script.now audit.now.first trace) (W.contents writer.old)
+        (W.contents writer.new) summary) }
     ensures err { IfErr result (λ fault. (trace : List ℕ) × IfSome (R.remaining reader.old) (λ those. trace ≡ those)
-        × StopsLong audit.now.limit script.now audit.now.first trace (W.contents writer.old) (W.contents writer.new) fault) }
+        × StopsLong audit.now.limit script.now audit.now.first trace (W.contents writer.old)
+        (W.contents writer.new) fault) }
 {
     let mut log = GrowingLog::new(audit.jobs.alloc);
     let parsed = read_script_in(&mut log, script)?;
@@ -67,7 +69,8 @@ fn audit_pieces<T: Threads + Sync, R: Read, W: Write>(
 ) -> Result<AuditSummary, Fault>
     ensures ok { (text : List ℕ) → script_meaning text ≡ Ok script.now → IfOk result (λ summary.
         (trace : List ℕ) × IfSome (R.remaining reader.old) (λ those. trace ≡ those)
-        × IsWritten (LongAuditSays text audit.now.first trace) (W.contents writer.old) (W.contents writer.new) summary) }
+        × IsWritten (LongAuditSays text audit.now.first trace) (W.contents writer.old)
+        (W.contents writer.new) summary) }
     ensures err { (text : List ℕ) → script_meaning text ≡ Ok script.now → IfErr result (λ fault.
         (trace : List ℕ) × IfSome (R.remaining reader.old) (λ those. trace ≡ those)
         × StopsLong audit.now.limit text audit.now.first trace (W.contents writer.old) (W.contents writer.new) fault) }

@@ -171,7 +171,8 @@ fn answer_request<R: Threads + Wait + Sync, I: Inputs, O: Write>(
 ) -> Result<Outcome, Failure>
     ensures ok { IfOk result (IsDone (I.paths inputs.old) (given_names work.entry.setting.names) work.entry.setting.form
         (O.contents out.old) (O.contents out.new) request.entry (I.paths inputs.new)) }
-    ensures err { IfErr result (IsUndone (I.paths inputs.old) (given_names work.entry.setting.names) work.entry.setting.form
+    ensures err { IfErr result (IsUndone (I.paths inputs.old)
+        (given_names work.entry.setting.names) work.entry.setting.form
         (O.contents out.old) (O.contents out.new) request.entry) }
     ensures unchanged { OnErr result (I.paths inputs.new ≡ I.paths inputs.old) }
 {
@@ -194,7 +195,8 @@ fn answer_printed<R: Threads + Wait + Sync, I: Inputs, O: Write>(
 ) -> Result<Outcome, Failure>
     ensures ok { IfOk result (IsDone (I.paths inputs.old) (given_names work.entry.setting.names) work.entry.setting.form
         (O.contents out.old) (O.contents out.new) (request.Print printed.entry) (I.paths inputs.new)) }
-    ensures err { IfErr result (IsUndone (I.paths inputs.old) (given_names work.entry.setting.names) work.entry.setting.form
+    ensures err { IfErr result (IsUndone (I.paths inputs.old)
+        (given_names work.entry.setting.names) work.entry.setting.form
         (O.contents out.old) (O.contents out.new) (request.Print printed.entry)) }
     ensures paths { I.paths inputs.new ≡ I.paths inputs.old }
 {
@@ -214,7 +216,8 @@ fn print<I: Inputs, O: Write>(
     out: &mut O,
 ) -> Result<Outcome, Failure>
     ensures ok { IfOk result (λ outcome. (text : List ℕ) × TextSays
-        (paths_for (given_names setting.entry.names) (I.paths inputs.old)) (given_names setting.entry.names) setting.entry.form
+        (paths_for (given_names setting.entry.names) (I.paths inputs.old))
+        (given_names setting.entry.names) setting.entry.form
         printed.entry outcome text × Appends (O.contents out.old) (O.contents out.new) text) }
     ensures err { IfErr result (IsUndone (I.paths inputs.old) (given_names setting.entry.names) setting.entry.form
         (O.contents out.old) (O.contents out.new) (request.Print printed.entry)) }
@@ -234,11 +237,14 @@ impl<'r, 'a, R: Threads + Wait + Sync> Work<'r, 'a, R> {
         inputs: &mut I,
         out: &mut O,
     ) -> Result<Outcome, Failure>
-        ensures ok { IfOk result (IsDone (I.paths inputs.old) (given_names self.entry.setting.names) self.entry.setting.form
+        ensures ok { IfOk result (IsDone (I.paths inputs.old)
+            (given_names self.entry.setting.names) self.entry.setting.form
             (O.contents out.old) (O.contents out.new)
             (request.Print (printed.Ask path.entry (question.Audit audit.entry))) (I.paths inputs.new)) }
-        ensures err { IfErr result (IsUndone (I.paths inputs.old) (given_names self.entry.setting.names) self.entry.setting.form
-            (O.contents out.old) (O.contents out.new) (request.Print (printed.Ask path.entry (question.Audit audit.entry)))) }
+        ensures err { IfErr result (IsUndone (I.paths inputs.old)
+            (given_names self.entry.setting.names) self.entry.setting.form
+            (O.contents out.old) (O.contents out.new) (request.Print (printed.Ask path.entry
+            (question.Audit audit.entry)))) }
         ensures paths { I.paths inputs.new ≡ I.paths inputs.old }
     {
         let asking = Asking {

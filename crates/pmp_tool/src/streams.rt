@@ -32,7 +32,8 @@ impl<'r, 'a, R: Threads + Wait + Sync> Work<'r, 'a, R> {
         inputs: &mut I,
         out: &mut O,
     ) -> Result<Outcome, Failure>
-        ensures ok { IfOk result (IsWritten (ReportSays (paths_for (given_names self.entry.setting.names) (I.paths inputs.old))
+        ensures ok { IfOk result (IsWritten (ReportSays (paths_for (given_names self.entry.setting.names)
+            (I.paths inputs.old))
             path.now audit.entry) (O.contents out.old) (O.contents out.new)) }
         ensures err { IfErr result (ReportFails (paths_for (given_names self.entry.setting.names) (I.paths inputs.old))
             (O.contents out.old) (O.contents out.new) path.now audit.entry) }
@@ -65,7 +66,8 @@ impl<'r, 'a, R: Threads + Wait + Sync> Work<'r, 'a, R> {
         ensures ok { IfOk result (IsWritten
             (LongReportSays (paths_for (given_names self.entry.setting.names) (I.paths inputs.old)) audit.entry)
             (O.contents out.old) (O.contents out.new)) }
-        ensures err { IfErr result (LongReportFails (paths_for (given_names self.entry.setting.names) (I.paths inputs.old))
+        ensures err { IfErr result (LongReportFails (paths_for (given_names self.entry.setting.names)
+            (I.paths inputs.old))
             (O.contents out.old) (O.contents out.new) audit.entry) }
         ensures paths { I.paths inputs.new ≡ I.paths inputs.old }
     {

@@ -70,7 +70,8 @@ fn ask_text<I: Inputs>(
     inputs: &mut I,
 ) -> Result<(Outcome, Vec<u8>), Failure>
     ensures ok { IfOk result (λ both. TextSays (paths_for (given_names setting.entry.names) (I.paths inputs.old))
-        (given_names setting.entry.names) setting.entry.form (printed.Ask path.entry question.entry) both.0 both.1.items) }
+        (given_names setting.entry.names) setting.entry.form
+        (printed.Ask path.entry question.entry) both.0 both.1.items) }
     ensures err { IfErr result (TextFails (paths_for (given_names setting.entry.names) (I.paths inputs.old))
         (given_names setting.entry.names) (printed.Ask path.entry question.entry)) }
     ensures paths { I.paths inputs.new ≡ I.paths inputs.old }
@@ -185,7 +186,8 @@ fn plan_of_text<I: Inputs>(alloc: Global, path: &str, inputs: &mut I) -> Result<
 
 /// Returns the policy of what is closed after a script's last publication.
 fn draft_text<I: Inputs>(alloc: Global, path: &str, inputs: &mut I) -> Result<Vec<u8>, Failure>
-    ensures ok { IfOk result (λ text. ScriptSays (I.paths inputs.old).scripts path.now (λ script. DraftSays script tt) text.items) }
+    ensures ok { IfOk result (λ text. ScriptSays (I.paths inputs.old).scripts path.now
+        (λ script. DraftSays script tt) text.items) }
     ensures err { IfErr result (ScriptFails (I.paths inputs.old).scripts path.now) }
     ensures paths { I.paths inputs.new ≡ I.paths inputs.old }
 {
